@@ -1,0 +1,7 @@
+pub mod Falls
+pub mod Faults
+pub mod Limits
+pub mod Noun
+pub mod Paths
+pub mod Trees
+pub mod formers

@@ -2,5 +2,18 @@
 #![tactic(auto)]
 
 mod fault;
+mod measure;
+mod name;
+mod noun;
+mod path;
+mod prim;
+mod sequence;
+mod tree;
 
-pub use fault::NoMemory;
+pub use fault::{Fault, NoMemory, Trouble};
+pub use name::Name;
+pub use noun::{Atom, Kind, Noun};
+pub use path::{Path, PyxId};
+pub use prim::Prim;
+pub use sequence::{Axes, Bytes, IntList, NameList, Sequence};
+pub use tree::{BadTree, Cell, CellList, Leaves, Tree};

@@ -1,0 +1,56 @@
+ghost use Rattle.std.specs.Prelude.{◌≡◌, ◌<◌, length, slice_set, Some, slice_get};
+
+use crate::name::Name;
+use std::marker::Model;
+
+/// A list in one buffer, which contracts see as the list of its items and not as a buffer.
+#[derive(Debug, Drop)]
+pub struct Sequence<T> {
+    items: Vec<T>,
+}
+
+/// Characters.
+pub type Bytes = Sequence<u8>;
+
+/// Integers.
+pub type IntList = Sequence<i64>;
+
+/// The lengths of an array along its axes, the first axis first.
+pub type Axes = Sequence<u64>;
+
+/// Names of nouns, verbs, modifiers or locales.
+pub type NameList = Sequence<Name>;
+
+impl<T> Model for Sequence<T> {
+    ghost use Rattle.std.specs.Prelude.{List};
+    ghost use Rattle.std.specs.Coded.{coded_list};
+
+    ghost Value = { List T };
+
+    ghost coded = { coded_list T.code };
+
+    ghost view = { λ a. a.items.items };
+}
+
+impl<T> Sequence<T> {
+    /// The list of these items, in the same buffer.
+    pub fn of(items: Vec<T>) -> Self
+        ensures { result ≡ items.items }
+    {
+        Sequence { items }
+    }
+
+    pub fn items(&self) -> &[T]
+        ensures { result.now ≡ self.now }
+    {
+        self.items.as_slice()
+    }
+
+    /// The items, in the same buffer.
+    pub fn into_items(self) -> Vec<T>
+        ensures { result.items ≡ self }
+    {
+        let Sequence { items } = self;
+        items
+    }
+}
