@@ -6,7 +6,7 @@ mod measure;
 mod name;
 mod noun;
 mod path;
-mod prim;
+mod primitive;
 mod sequence;
 mod tree;
 
@@ -14,6 +14,6 @@ pub use fault::{Fault, NoMemory, Trouble};
 pub use name::Name;
 pub use noun::{Atom, Kind, Noun};
 pub use path::{Path, PyxId};
-pub use prim::Prim;
+pub use primitive::Primitive;
 pub use sequence::{Axes, Bytes, IntList, NameList, Sequence};
 pub use tree::{BadTree, Cell, CellList, Leaves, Tree};

@@ -56,7 +56,7 @@
 /// | `CapitalLDot` | `L.` | level of | |
 /// | `CapitalTDot` | `T.` | | threads |
 #[derive(Clone, Copy, Debug, PartialEq, Eq)]
-pub enum Prim {
+pub enum Primitive {
     Equal,
     Less,
     LessDot,

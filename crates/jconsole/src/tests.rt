@@ -1,0 +1,172 @@
+//! Scripts and what they print, with statuses: what a J user and the session's rules expect.
+use crate::{Status, run_solo};
+use jio::{MemSink, MemSource};
+use std::alloc::Global;
+use std::test::Fail;
+
+#[derive(Drop)]
+struct Session {
+    status: Status,
+    printed: Vec<u8>,
+    left: usize,
+}
+
+// Runs a script read `most` bytes a call; the calls of source and sink with the given number fail, 0 being none.
+fn run_script(
+    alloc: Global,
+    script: &[u8],
+    most: usize,
+    bad_read: u64,
+    bad_write: u64,
+) -> Result<Session, Fail>
+    requires { 1 ≤ most }
+{
+    let bytes = Vec::from_slice(alloc, script)?;
+    let mut source = MemSource::new(bytes, most, Vec::from_slice(alloc, &[bad_read])?);
+    let mut sink = MemSink::new(alloc, Vec::from_slice(alloc, &[bad_write])?);
+    let outcome = run_solo(alloc, &[], &mut source, &mut sink);
+    Ok(Session {
+        status: outcome.status,
+        printed: Vec::from_slice(alloc, sink.taken())?,
+        left: source.left().len(),
+    })
+}
+
+#[test]
+fn scripts_and_their_prints(rt: HostRuntime) -> Result<(), Fail> {
+    let rows = [
+        ("3 + 4 * 5\n10 - 2 - 3\n_4 * 3\n", "23\n11\n_12\n"),
+        ("", ""),
+        (
+            "9223372036854775807 + 1\n_9223372036854775807 - 1\n- _9223372036854775808\n",
+            "|nonce error\n|   9223372036854775807 + 1\n_9223372036854775808\n|nonce error\n|   - _9223372036854775808\n",
+        ),
+        (
+            "- 3 - 5\n* _7\n+\n3 +\nx\n1 2\n",
+            "2\n_1\nverb\n|nonce error\n|   3 +\n|spelling error\n|   x\n|spelling error\n|   1 2\n",
+        ),
+        // a carriage return before a line feed is dropped, and the last line may lack its end
+        ("1 + 1\r\n\r\n 2*3", "2\n6\n"),
+        ("7\r", "|spelling error\n|   7\r\n"),
+        (" \t 5 -\t1 \t\n   \n\n", "4\n"),
+        (
+            "  3 +. 4 \n_\n1_000\n5_\n3abc\n1:\n+:\n",
+            "|spelling error\n|   3 +. 4\n|spelling error\n|   _\n|spelling error\n|   1_000\n|spelling error\n|   5_\n|spelling error\n|   3abc\n|spelling error\n|   1:\n|spelling error\n|   +:\n",
+        ),
+        (
+            "- - - 5\n2 - - 5\n+ - *\n3 + - * _5 * 2\n",
+            "_5\n7\n|nonce error\n|   + - *\n4\n",
+        ),
+        (
+            "9223372036854775808\n_9223372036854775809\n007\n_0\n",
+            "|spelling error\n|   9223372036854775808\n|spelling error\n|   _9223372036854775809\n7\n0\n",
+        ),
+        (
+            "3037000500 * 3037000500\n3037000499 * 3037000499\n_9223372036854775808 + 0\n",
+            "|nonce error\n|   3037000500 * 3037000500\n9223372030926249001\n_9223372036854775808\n",
+        ),
+    ];
+    for (script, prints) in rows {
+        let run = run_script(rt.alloc(), script.as_bytes(), 7, 0, 0)?;
+        assert_eq!(rt; run.status, Status::Done, "{script}");
+        assert_eq!(rt; run.printed.as_slice(), prints.as_bytes(), "{script}");
+    }
+    Ok(())
+}
+
+#[test]
+fn faults_of_the_outside(rt: HostRuntime) -> Result<(), Fail> {
+    let cut = run_script(rt.alloc(), b"1\n2\n", 64, 0, 2)?;
+    assert_eq!(rt; cut.status, Status::WriteFault);
+    assert_eq!(rt; cut.printed.as_slice(), b"1\n".as_slice());
+    let unwritten = run_script(rt.alloc(), b"1\n2\n", 64, 0, 1)?;
+    assert_eq!(rt; unwritten.status, Status::WriteFault);
+    assert!(rt; unwritten.printed.is_empty());
+    let unread = run_script(rt.alloc(), b"1\n2\n", 64, 1, 0)?;
+    assert_eq!(rt; unread.status, Status::ReadFault);
+    assert!(rt; unread.printed.is_empty());
+    assert_eq!(rt; unread.left, 4);
+    let late = run_script(rt.alloc(), b"1\n2\n", 1, 3, 0)?;
+    assert_eq!(rt; late.status, Status::ReadFault);
+    assert!(rt; late.printed.is_empty());
+    let good = run_script(rt.alloc(), b"1\n2\n", 64, 3, 3)?;
+    assert_eq!(rt; good.status, Status::Done);
+    assert_eq!(rt; good.printed.as_slice(), b"1\n2\n".as_slice());
+    Ok(())
+}
+
+#[test]
+fn words_are_refused(rt: HostRuntime) -> Result<(), Fail> {
+    let mut source = MemSource::new(
+        Vec::from_slice(rt.alloc(), b"1\n")?,
+        64,
+        Vec::new(rt.alloc()),
+    );
+    let mut sink = MemSink::new(rt.alloc(), Vec::new(rt.alloc()));
+    let words = [String::from_str(rt.alloc(), "--help")?];
+    assert_eq!(rt;
+        run_solo(rt.alloc(), &words, &mut source, &mut sink).status,
+        Status::Usage
+    );
+    assert_eq!(rt; source.left().len(), 2);
+    assert!(rt; sink.taken().is_empty());
+    Ok(())
+}
+
+#[test]
+fn the_greatest_script_and_line(rt: HostRuntime) -> Result<(), Fail> {
+    let mut script = vec![in rt.alloc(); b'\n'; 16_777_216]?;
+    let whole = run_script(rt.alloc(), &script, 1_000_000, 0, 0)?;
+    assert_eq!(rt; whole.status, Status::Done);
+    assert!(rt; whole.printed.is_empty());
+    script.push(b'\n')?;
+    let long = run_script(rt.alloc(), &script, 1_000_000, 0, 0)?;
+    assert_eq!(rt; long.status, Status::TooLong);
+    assert!(rt; long.printed.is_empty());
+    let mut line = vec![in rt.alloc(); b'0'; 65_536]?;
+    assert_eq!(rt;
+        run_script(rt.alloc(), &line, 65_536, 0, 0)?.printed.as_slice(),
+        b"0\n".as_slice()
+    );
+    line.push(b'0')?;
+    let refused = run_script(rt.alloc(), &line, 65_536, 0, 0)?.printed;
+    assert!(rt; refused.as_slice().starts_with(b"|limit error\n|   0000"));
+    assert_eq!(rt; refused.len(), 13 + 4 + 65_537 + 1);
+    Ok(())
+}
+
+#[test]
+fn every_byte_alone(rt: HostRuntime) -> Result<(), Fail> {
+    for byte in 0..=255u8 {
+        let run = run_script(rt.alloc(), &[byte, b'\n'], 64, 0, 0)?;
+        assert_eq!(rt; run.status, Status::Done);
+        let wanted = match byte {
+            b' ' | b'\t' | b'\r' | b'\n' => Vec::new(rt.alloc()),
+            b'0'..=b'9' => Vec::from_slice(rt.alloc(), &[byte, b'\n'])?,
+            b'+' | b'-' | b'*' => Vec::from_slice(rt.alloc(), b"verb\n")?,
+            _ => {
+                let mut fault = Vec::from_slice(rt.alloc(), b"|spelling error\n|   ")?;
+                fault.extend_from_slice(&[byte, b'\n'])?;
+                fault
+            }
+        };
+        assert_eq!(rt; run.printed.as_slice(), wanted.as_slice(), "byte {byte}");
+    }
+    Ok(())
+}
+
+#[test]
+fn statuses(rt: HostRuntime) {
+    let rows = [
+        (Status::Done, 0, None),
+        (Status::Usage, 1, Some("usage")),
+        (Status::ReadFault, 2, Some("read fault")),
+        (Status::WriteFault, 3, Some("write fault")),
+        (Status::NoMemory, 4, Some("no memory")),
+        (Status::TooLong, 7, Some("script too long")),
+    ];
+    for (status, code, message) in rows {
+        assert_eq!(rt; status.exit_code(), code);
+        assert_eq!(rt; status.message(), message);
+    }
+}

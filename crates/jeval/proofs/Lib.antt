@@ -1,0 +1,3 @@
+pub mod Classes
+pub mod Going
+pub mod Silence

@@ -1,0 +1,5 @@
+pub mod Verbs
+pub mod Parsing
+pub mod Sentence
+pub mod Printing
+pub mod Answers

@@ -1,0 +1,8 @@
+use Rattle.std.proofs.Common.{◌≡◌, ◌<◌, length, drop}
+use Rattle.std.specs.Str.Parse.{AllDigits, digits_value, digits_value_after}
+use Rattle.jnumber.proofs.Digits.{SameDigits}
+use Rattle.jnumber.proofs.reader.magnitude.Given as goal
+
+-- the value so far, followed by what is left, is the value of all, and no byte so far was no digit
+abbrev pub invariant-loop-byte : goal.invariant-loop-byte
+invariant-loop-byte l = SameDigits l.value (drop l.byte-index l.digits) l.digits

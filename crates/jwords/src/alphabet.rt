@@ -1,0 +1,37 @@
+//! The characters of words.
+ghost use Rattle.std.specs.Prelude.{◌≡◌};
+ghost use Rattle.jwords.specs.Alphabet as alphabet;
+
+/// Whether a byte is a space or a tab.
+pub fn is_blank(byte: u8) -> bool
+    ensures { result ≡ alphabet.is_blank byte }
+{
+    byte == b' ' || byte == b'\t'
+}
+
+pub(crate) fn begins_number(byte: u8) -> bool
+    ensures { result ≡ alphabet.begins_number byte }
+{
+    (b'0' <= byte && byte <= b'9') || byte == b'_'
+}
+
+pub(crate) fn is_in_run(byte: u8) -> bool
+    ensures { result ≡ alphabet.is_in_run byte }
+{
+    (b'A' <= byte && byte <= b'Z')
+        || (b'a' <= byte && byte <= b'z')
+        || begins_number(byte)
+        || byte == b'.'
+}
+
+pub(crate) fn is_inflection(byte: u8) -> bool
+    ensures { result ≡ alphabet.is_inflection byte }
+{
+    byte == b'.' || byte == b':'
+}
+
+pub(crate) fn is_verb(byte: u8) -> bool
+    ensures { result ≡ alphabet.is_verb byte }
+{
+    byte == b'+' || byte == b'-' || byte == b'*'
+}
