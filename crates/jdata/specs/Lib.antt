@@ -1,7 +1,9 @@
 pub mod Falls
 pub mod Faults
 pub mod Limits
+pub mod Match
 pub mod Noun
 pub mod Paths
+pub mod Pyxes
 pub mod Trees
 pub mod formers

@@ -1,5 +1,5 @@
 -- When a shape and atoms are an array, and what is wrong with them where they aren't.
-use Rattle.std.specs.Prelude.{◌==◌, ◌&&◌, nat_le, Bool, if◌then◌else◌, Result, Ok, Err, length}
+use Rattle.std.specs.Prelude.{◌≡◌, ◌≤◌, ◌==◌, ◌&&◌, nat_le, Bool, if◌then◌else◌, Result, Ok, Err, length}
 use Rattle.jdata.specs.Noun.{shape, atoms, level, product, extent}
 use Rattle.jdata.specs.declared.noun.Noun.{Noun}
 use Rattle.jdata.specs.declared.tree.BadTree.{BadTree}
@@ -14,3 +14,10 @@ checked v =
     if is_within v
     then (if length (atoms v) == product (shape v) then Ok v else Err (bad.Length (product (shape v)) (length (atoms v))))
     else Err bad.Limit
+
+-- what is true of every array
+pub record IsArray (v : Noun) : Type 0 where
+  pub whole : length (atoms v) ≡ product (shape v)
+  pub rank : length (shape v) ≤ 63
+  pub extent_at_most : extent (shape v) ≤ 134217728
+  pub level_at_most : level v ≤ 64

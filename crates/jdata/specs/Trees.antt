@@ -1,6 +1,7 @@
 -- How the code keeps a noun: its leaves, and beside them the level and whether a pyx stands in it.
-use Rattle.std.specs.Prelude.{ℕ, ◌≡◌, ◌≤◌, List, map, length}
-use Rattle.jdata.specs.Noun.{noun, level, product, extent}
+use Rattle.std.specs.Prelude.{ℕ, ◌≡◌, List, map}
+use Rattle.jdata.specs.Limits.{IsArray}
+use Rattle.jdata.specs.Noun.{noun, level}
 use Rattle.jdata.specs.declared.noun.Noun.{Noun}
 use Rattle.jdata.specs.declared.noun.Kind.{Kind}
 use Rattle.jdata.specs.declared.noun.Kind.TheVariants as sort
@@ -33,10 +34,7 @@ noun_of axes leaves = noun axes (kind_of leaves) (atoms_of leaves)
 abbrev pub value_of : Inside → Noun
 value_of a = noun_of a.axes a.leaves
 
--- the limits hold, and what is kept beside the leaves is true of them
+-- it is an array, and what is kept beside the leaves is true of them
 pub record IsKept (a : Inside) : Type 0 where
-  pub whole : length (atoms_of a.leaves) ≡ product a.axes
-  pub rank : length a.axes ≤ 63
-  pub extent_at_most : extent a.axes ≤ 134217728
+  pub array : IsArray (value_of a)
   pub depth_is : a.depth ≡ level (value_of a)
-  pub level_at_most : level (value_of a) ≤ 64

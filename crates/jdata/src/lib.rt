@@ -17,3 +17,6 @@ pub use path::{Path, PyxId};
 pub use primitive::Primitive;
 pub use sequence::{Axes, Bytes, IntList, NameList, Sequence};
 pub use tree::{BadTree, Cell, CellList, Leaves, Tree};
+
+#[cfg(test)]
+mod tests;

@@ -1,7 +1,10 @@
-ghost use Rattle.std.specs.Prelude.{◌≡◌, ◌<◌, length, slice_set, Some, slice_get};
+ghost use Rattle.std.specs.Prelude.{◌≡◌, ◌<◌, IfOk, length, slice_get, slice_set};
 
+use crate::fault::NoMemory;
 use crate::name::Name;
+use std::alloc::Global;
 use std::marker::Model;
+use std::mem;
 
 /// A list in one buffer, which contracts see as the list of its items and not as a buffer.
 #[derive(Debug, Drop)]
@@ -46,11 +49,30 @@ impl<T> Sequence<T> {
         self.items.as_slice()
     }
 
+    /// Puts an item into a place, and answers the one that was there.
+    pub fn replace(&mut self, at: usize, item: T) -> T
+        requires { at < length self.old }
+        ensures before { slice_get self.old at ≡ Some result }
+        ensures after { self.new ≡ slice_set self.old at item }
+    {
+        mem::replace(&mut self.items[at], item)
+    }
+
     /// The items, in the same buffer.
     pub fn into_items(self) -> Vec<T>
         ensures { result.items ≡ self }
     {
         let Sequence { items } = self;
         items
+    }
+}
+
+impl<T: Copy> Sequence<T> {
+    /// A list equal to this one, in a buffer of its own.
+    pub fn copy(&self, alloc: Global) -> Result<Sequence<T>, NoMemory>
+        ensures { IfOk result (λ l. l ≡ self.now) }
+    {
+        let items = Vec::from_slice(alloc, self.items.as_slice())?;
+        Ok(Sequence { items })
     }
 }

@@ -9,6 +9,10 @@ use crate::sequence::{Axes, Bytes, IntList, Sequence};
 use std::alloc::Global;
 use std::marker::Model;
 
+mod copies;
+mod matches;
+mod pyxes;
+
 /// An atom of a boxed array.
 #[cycle(tree)]
 #[derive(Debug, Drop)]
@@ -76,7 +80,7 @@ impl Model for Tree {
 
 impl Tree {
     ghost use Rattle.jdata.specs.Trees.{noun_of, kind_of, atoms_of};
-    ghost use Rattle.jdata.specs.Limits.{checked};
+    ghost use Rattle.jdata.specs.Limits.{checked, IsArray};
 
     /// The array of this shape with these atoms.
     pub fn new(shape: Vec<u64>, items: Leaves) -> Result<Tree, BadTree>
@@ -118,8 +122,10 @@ impl Tree {
         })
     }
 
+    /// The lengths along the axes, the first axis first.
     pub fn shape(&self) -> &[u64]
-        ensures { result.now ≡ shape self.now }
+        ensures value { result.now ≡ shape self.now }
+        ensures array { IsArray self.now }
     {
         self.axes.items()
     }
@@ -135,6 +141,18 @@ impl Tree {
         ensures { result ≡ kind self.now }
     {
         self.leaves.kind()
+    }
+
+    /// The shape and the atoms, in the same buffers.
+    pub fn into_parts(self) -> (Vec<u64>, Leaves)
+        ensures { noun_of result.0.items result.1 ≡ self }
+    {
+        let Tree {
+            axes,
+            leaves,
+            depth: _,
+        } = self;
+        (axes.into_items(), leaves)
     }
 
     /// How deep boxes are nested in it: 0 where it has no boxes.
