@@ -1,6 +1,6 @@
 use crate::{
     Axes, BadTree, Bytes, Cell, CellList, Fault, IntList, Kind, Leaves, Name, NameList, NoMemory,
-    Path, Prim, PyxId, Tree, Trouble,
+    Path, Primitive, PyxId, Tree, Trouble,
 };
 use std::alloc::Global;
 use std::test::Fail;
@@ -79,7 +79,7 @@ fn faults_have_their_numbers_and_words(rt: HostRuntime) {
     }
     assert_eq!(rt; Trouble::from(Fault::Nonce), Trouble::Fault(Fault::Nonce));
     assert_eq!(rt; Trouble::from(NoMemory), Trouble::NoMemory);
-    assert!(rt; Prim::LeftBraceColon != Prim::LeftBraceColonColon);
+    assert!(rt; Primitive::LeftBraceColon != Primitive::LeftBraceColonColon);
 }
 
 #[test]

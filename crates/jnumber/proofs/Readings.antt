@@ -1,10 +1,10 @@
 -- The laws of reading and writing: one reading for each run, and what is written is read again.
-use Rattle.std.proofs.Common.{◌≡◌, ◌≢◌, ℕ, ◌+◌, ◌-◌, ◌*◌, ◌^◌, ◌<◌, ◌≤◌, ◌⊎◌, inl, inr, Bool, true, false, eqb, cond, List, [], ◌∷◌, length, get_or, refl, sym, rules, arith, ◌∙◌, ap, suc, zero, subst}
+use Rattle.std.proofs.Common.{◌≡◌, ◌≢◌, ℕ, ◌^◌, ◌<◌, ◌≤◌, ◌⊎◌, inl, inr, Bool, true, false, eqb, List, [], ◌∷◌, length, refl, sym, arith, ◌∙◌, ap, suc, zero, subst}
 use Rattle.std.specs.Prelude.{ℤ, pos, negsuc, neg_ℤ, decimal, FitsSigned}
-use Rattle.std.proofs.lemmas.Fmt.{decimal_is_IsNumeral, length-decimal-le, decimal_nonempty}
+use Rattle.std.proofs.lemmas.Fmt.{decimal_is_IsNumeral, length-decimal-le}
 use Rattle.std.proofs.lemmas.Int.Digits.{digits_value-lt}
 use Rattle.std.proofs.lemmas.Bool.Decides.{nat_tests}
-use Rattle.std.proofs.lemmas.Bool.{cases_eq, cases_lt, cases_Bool, ne_eqb, eqb-true}
+use Rattle.std.proofs.lemmas.Bool.{cases_eq, cases_lt}
 use Rattle.std.specs.Char.{digit_value}
 use Rattle.std.specs.Str.Parse.{AllDigits, IsNumeral, digits_value}
 use mir.Syntax.{w64}
@@ -41,8 +41,8 @@ pub all_digits_or_not : (ds : List ℕ) → AllDigits 10 ds ⊎ (AllDigits 10 ds
 all_digits_or_not [] = inl tt
 all_digits_or_not (c ∷ cs) =
     elim (cases_lt (digit_value c) 10) [
-      inl d ↦ elim (all_digits_or_not cs) [ inl h ↦ inl (d, h) | inr never ↦ inr (λ all. never all.1) ]
-    | inr never ↦ inr (λ all. absurd (omega (arith, all.0)))
+      | inl d ↦ elim (all_digits_or_not cs) [ inl h ↦ inl (d, h) | inr never ↦ inr (λ all. never all.1) ]
+      | inr never ↦ inr (λ all. absurd (omega (arith, all.0)))
     ]
 
 pub numeral_or_not : (ds : List ℕ) → IsNumeral 10 ds ⊎ (IsNumeral 10 ds → ⊥)
@@ -64,16 +64,16 @@ wide_or_not (c ∷ d ∷ cs) = inr (λ e. cc)
 pub has_reading : (run : List ℕ) → (r : Read) × IsReading run r
 has_reading run =
     elim (numeral_or_not (digits_in run)) [
-      inl digits ↦ elim (fits_or_not (number_in run)) [
-        inl fits ↦ (Number (number_in run), record { digits = digits; value = refl; in_range = fits })
-      | inr never ↦ elim (wide_or_not run) [
-          inl wide ↦ (Wide, wide)
-        | inr not_wide ↦ (Not, (not_wide, λ z p. never (subst (FitsSigned w64) p.value p.in_range)))
+      | inl digits ↦ elim (fits_or_not (number_in run)) [
+        | inl fits ↦ (Number (number_in run), record { digits = digits; value = refl; in_range = fits })
+        | inr never ↦ elim (wide_or_not run) [
+          | inl wide ↦ (Wide, wide)
+          | inr not_wide ↦ (Not, (not_wide, λ z p. never (subst (FitsSigned w64) p.value p.in_range)))
         ]
       ]
-    | inr never ↦ elim (wide_or_not run) [
-        inl wide ↦ (Wide, wide)
-      | inr not_wide ↦ (Not, (not_wide, λ z p. never p.digits))
+      | inr never ↦ elim (wide_or_not run) [
+        | inl wide ↦ (Wide, wide)
+        | inr not_wide ↦ (Not, (not_wide, λ z p. never p.digits))
       ]
     ]
 

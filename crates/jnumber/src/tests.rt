@@ -1,6 +1,5 @@
-use std::test::Fail;
-
 use crate::{Read, read, write};
+use std::test::Fail;
 
 #[test]
 fn runs_are_read(rt: HostRuntime) -> Result<(), Fail> {

@@ -1,5 +1,4 @@
-use Rattle.std.proofs.Common.{◌≡◌, ◌<◌, length, drop}
-use Rattle.std.specs.Str.Parse.{AllDigits, digits_value, digits_value_after}
+use Rattle.std.proofs.Common.{drop}
 use Rattle.jnumber.proofs.Digits.{SameDigits}
 use Rattle.jnumber.proofs.reader.magnitude.Given as goal
 
