@@ -1,0 +1,6 @@
+pub mod Totals
+pub mod Kept
+pub mod Held
+pub mod Entries
+pub mod Known
+pub mod Crossing

@@ -1,0 +1,3 @@
+pub mod Pass
+pub mod Turned
+pub mod Steps
