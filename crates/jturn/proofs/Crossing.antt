@@ -1,4 +1,4 @@
--- A pass may go to another thread, and a turn may be shared, where the value may go to another thread.
+-- A pass may go to another thread, and a turn may be shared, where the state may go to another thread.
 use denote.RattleType.{RattleType}
 use denote.Param.Send.{IsSend, IsSync, sendable, part_keyless}
 use denote.Struct.Struct.{Struct}
@@ -18,20 +18,20 @@ use Rattle.jturn.specs.contracts.board.Slot as slot
 use Rattle.jturn.specs.contracts.pass.TurnPass as pass
 use Rattle.jturn.specs.contracts.turn.Turn as turn
 
-pub seat_send : (S V : RattleType) → IsSend S → IsSend (seat.the_row S V)
+seat_send : (S V : RattleType) → IsSend S → IsSend (seat.the_row S V)
 seat_send S V s = record { owned = λ d vs. ((λ vss. (tt, ((λ uss. (tt, tt)), tt))), seat_keyless S s V.coded.code d.table_id d.id d.me); leaving = λ k f vs. tt }
 
-pub slot_send : (S E : RattleType) → IsSend S → IsSend (slot.the_row S (note.the_row E))
+slot_send : (S E : RattleType) → IsSend S → IsSend (slot.the_row S (note.the_row E))
 slot_send S E s = search (sendable, crosses) depth 20
 
 pub pass_send : (S E : RattleType) (g : Ghosts S.Denot E.Denot) → IsSend S → IsSend (pass.the_row S E g)
 pass_send S E g s = search (sendable, slot_send, seat_send) depth 20
 
-pub shared_sync : (S V K P : RattleType) (g : rule.Ghosts P.Denot S.Denot V.Denot K.Denot) → IsSend S → IsSync (shared.the_row S V K P g)
+shared_sync : (S V K P : RattleType) (g : rule.Ghosts P.Denot S.Denot V.Denot K.Denot) → IsSend S → IsSync (shared.the_row S V K P g)
 shared_sync S V K P g s = let fields : IsSync (Struct (shape (shared.the_type S V K P g))) = search sendable depth 20 in
     record { shared = λ d b o ν. (fields.shared (d.words, (d.slots, (tt, tt))) b o ν, shares_keyless S s V.coded.code d.table_id (g.holds d.key) d.words d.slots ν) }
 
-pub lease_sync : (T : RattleType) → IsSync (lease.the_row T Heap.the_row ghosts)
+lease_sync : (T : RattleType) → IsSync (lease.the_row T Heap.the_row ghosts)
 lease_sync T = record { shared = λ d b o ν q. part_keyless (lease.the_row T Heap.the_row ghosts) (right_send T Heap.the_row ghosts frees) q d b o }
 
 pub turn_sync : (S E : RattleType) (g : Ghosts S.Denot E.Denot) → IsSend S → IsSync (turn.the_row S E g)

@@ -2,7 +2,7 @@
 use Rattle.std.specs.Prelude.{◌≡◌, ℕ, zero, suc, ◌+◌, ◌-◌, ◌<◌, ◌≤◌, Bool, true, false, ◌||◌, if◌then◌else◌, nat_lt, List, [], ◌∷◌, ◌++◌, length}
 use Rattle.atomic_table.specs.Seated.{TableId}
 
--- a turn's name, which no other turn has, and the number of its parts
+-- the name that a turn shares with its passes, and the number of its parts
 pub record Terms : Type 0 where
   pub name : TableId
   pub parts : ℕ
@@ -83,3 +83,13 @@ module _ {E : Type 0} where
     is_marker = one.is_marker || other.is_marker;
     mark = if other.is_marker then other.mark else one.mark;
   }
+
+  -- What turns make of a pass that make these entries: it has seen more, and its entries are those before and then these
+  pub record Grows (before : Pass E) (made : List E) (after : Pass E) : Type 0 where
+    pub turn : after.turn ≡ before.turn
+    pub seen : StartsWith after.seen before.seen
+    pub entries : entries_at after.seen after.own ≡ entries_at before.seen before.own ++ made
+    pub parts : after.parts ≡ before.parts
+    pub is_marker : after.is_marker ≡ before.is_marker
+    pub mark : before.is_marker ≡ true → after.mark ≡ before.mark
+    pub constant : after.constant ≡ before.constant
