@@ -365,7 +365,7 @@ module _ {S E : Type 0} (stands : S → List E → Type 0) (mark : S → ℕ × 
         marked = r.marked;
         fixed = r.fixed;
         changes = r.changes;
-    sleepers = r.sleepers;
+        sleepers = r.sleepers;
         words = r.words;
         few = r.few;
         all_parts = let e = total_set (λ (u : V). u.parts) s.views id v left at in let k = total_snoc (λ (u : V). u.parts) (set s.views id left) right in let a = r.all_parts in omega arith;
@@ -421,7 +421,7 @@ module _ {S E : Type 0} (stands : S → List E → Type 0) (mark : S → ℕ × 
         marked = r.marked;
         fixed = r.fixed;
         changes = r.changes;
-    sleepers = r.sleepers;
+        sleepers = r.sleepers;
         words = r.words;
         few = r.few;
         all_parts = sym (same (λ (u : V). u.parts) refl refl) ∙ r.all_parts;

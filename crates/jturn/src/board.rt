@@ -54,7 +54,6 @@ pub struct InTurn<S> {
 
 impl<S: Logged> TableRule<Slot<S, Snapshot<S::Entry>>, View<S::Entry>, Opening<S>> for InTurn<S> {
     ghost use Rattle.jturn.specs.Turned.{Turned};
-
     ghost use Rattle.jturn.specs.Steps.{opened};
 
     ghost holds = { λ key. Turned S.stands_for S.mark S.constant key.parts };
@@ -64,6 +63,12 @@ impl<S: Logged> TableRule<Slot<S, Snapshot<S::Entry>>, View<S::Entry>, Opening<S
 
 #[derive(Drop)]
 pub(crate) struct Board<S: Logged> {
-    pub(crate) table: Table<Slot<S, Snapshot<S::Entry>>, View<S::Entry>, Opening<S>, InTurn<S>, Global>,
+    pub(crate) table: Table<
+        Slot<S, Snapshot<S::Entry>>,
+        View<S::Entry>,
+        Opening<S>,
+        InTurn<S>,
+        Global,
+    >,
     ghost sized: { (table.shared.table_id.words ≡ 4) × (table.shared.table_id.slots ≡ 1) },
 }

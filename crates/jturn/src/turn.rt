@@ -86,10 +86,7 @@ impl<S: Logged> Turn<S> {
             seat: other,
             changes: _,
         } = other;
-        self.board
-            .table
-            .shared
-            .join_seat::<Glue>(&mut seat, other);
+        self.board.table.shared.join_seat::<Glue>(&mut seat, other);
         self.board.compare(&mut seat);
         TurnPass { seat, changes }
     }
