@@ -9,9 +9,13 @@ use crate::pass::TurnPass;
 use crate::steps::state_of;
 use crate::turn::Turn;
 use atomic_table::Seat;
+use std::hint;
 use std::marker::Model;
 use std::snapshot::Snapshot;
 use std::sync::Wait;
+
+// How often a pass looks before it sleeps in line. A turn is mostly short, and sleeping costs more than some looks.
+const LOOKS_AWAKE: u32 = 100;
 
 /// It has the state. End it by `commit` or `back`: no other pass is served before.
 pub struct Guard<'a, S: Logged> {
@@ -47,6 +51,7 @@ impl<S: Logged> Turn<S> {
             changes: _,
         } = pass;
         let ticket = self.board.draw(&mut seat);
+        let mut looks = 0;
         for _ in rt.forever() {
             let served = self.board.look(&mut seat);
             if served == ticket {
@@ -60,10 +65,13 @@ impl<S: Logged> Turn<S> {
                     changes,
                 };
             }
-            self.board
-                .table
-                .shared
-                .park(rt, 1, (served % (1 << 32)) as u32);
+            if looks < LOOKS_AWAKE {
+                looks += 1;
+                hint::spin_loop();
+            } else {
+                let shared = &self.board.table.shared;
+                shared.park(rt, 1, (served % (1 << 32)) as u32);
+            }
         }
         unreachable!()
     }
@@ -85,8 +93,8 @@ impl<S: Logged> Guard<'_, S> {
             changes: _,
         } = self;
         let changes = turn.board.change(&mut seat);
-        turn.board
-            .serve(&mut seat, Slot::Added(state, Snapshot::of(entry)));
+        let put = Slot::Added(state, Snapshot::of(entry));
+        turn.board.serve(&mut seat, put);
         turn.wake();
         TurnPass { seat, changes }
     }

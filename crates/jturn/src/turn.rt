@@ -66,7 +66,8 @@ impl<S: Logged> Turn<S> {
         ensures second { result.1 ≡ split_second pass }
     {
         let TurnPass { mut seat, changes } = pass;
-        let other = self.board.table.shared.split_seat::<Cut>(&mut seat);
+        let shared = &self.board.table.shared;
+        let other = shared.split_seat::<Cut>(&mut seat);
         let second = TurnPass {
             seat: other,
             changes,
@@ -86,7 +87,8 @@ impl<S: Logged> Turn<S> {
             seat: other,
             changes: _,
         } = other;
-        self.board.table.shared.join_seat::<Glue>(&mut seat, other);
+        let shared = &self.board.table.shared;
+        shared.join_seat::<Glue>(&mut seat, other);
         self.board.compare(&mut seat);
         TurnPass { seat, changes }
     }
@@ -98,10 +100,8 @@ impl<S: Logged> Turn<S> {
     {
         let TurnPass { mut seat, changes } = pass;
         self.board.lie_down(&mut seat);
-        self.board
-            .table
-            .shared
-            .park(rt, 2, (changes % (1 << 32)) as u32);
+        let shared = &self.board.table.shared;
+        shared.park(rt, 2, (changes % (1 << 32)) as u32);
         self.board.get_up(&mut seat);
         TurnPass { seat, changes }
     }
