@@ -1,12 +1,12 @@
 -- The entries of a pass as the history grows, and all entries.
-use Rattle.std.proofs.Common.{◌≡◌, ◌≢◌, ℕ, zero, suc, ◌+◌, ◌<◌, ◌≤◌, eqb, List, [], ◌∷◌, ◌++◌, length, sym, refl, ap, ◌∙◌, subst, arith, append_assoc, length-append}
+use Rattle.std.proofs.Common.{◌≡◌, ℕ, zero, suc, ◌+◌, ◌<◌, ◌≤◌, eqb, List, [], ◌∷◌, ◌++◌, length, sym, refl, ap, ◌∙◌, subst, arith, append_assoc}
 use Rattle.std.specs.List.Sorted.{IsPermutation}
 use Rattle.std.proofs.lemmas.List.Sorted.{IsPermutation-refl, IsPermutation-sym, IsPermutation-trans, IsPermutation-cons, IsPermutation-to_front, IsPermutation-middle}
 use mathlib.Core.Logic.{dite}
 use native.Mathlib.Decide.{ℕ_discrete, dec_le}
 use Rattle.jturn.specs.Pass.{StartsWith, entry_at, entries_at}
 use Rattle.jturn.specs.Turned.{one_if, times, IsOneEntry}
-use Rattle.jturn.proofs.Totals.{one_here, none_else, times_append, starts_length}
+use Rattle.jturn.proofs.Totals.{one_here, none_else, times_append}
 
 -- the positions are all below n
 abbrev Below : ℕ → List ℕ → Type 0

@@ -1,7 +1,7 @@
 -- What one turn makes of a pass.
-use Rattle.std.proofs.Common.{◌≡◌, ℕ, List, [], ◌∷◌, ◌++◌, length, sym, refl, ap, ◌∙◌, subst}
+use Rattle.std.proofs.Common.{◌≡◌, ℕ, List, [], ◌∷◌, ◌++◌, sym, ap, ◌∙◌, subst}
 use Rattle.std.proofs.lemmas.List.{append-nil}
-use Rattle.jturn.specs.Pass.{Pass, Enters, Grows, StartsWith, entries, entries_at, with_entry}
+use Rattle.jturn.specs.Pass.{Pass, Enters, Grows, StartsWith, entries, with_entry}
 use Rattle.jturn.specs.Laws.{starts_on}
 
 module _ {E : Type 0} where

@@ -1,12 +1,6 @@
 -- What a guard knows of its seat.
 use Rattle.std.proofs.Common.{◌≡◌, ℕ, Bool, true, false, cond, eqb, List, [], ◌∷◌, refl}
 use Rattle.std.proofs.lemmas.Bool.{eqb-true}
-use Rattle.std.proofs.Math.Bool.{Bool-set}
-use Rattle.std.specs.Coded.{Coded-set, le_prop}
-use Rattle.std.specs.declared.snapshot.Snapshot.{Snapshot}
-use Rattle.atomic_table.specs.Seated.{TableId, table_id_coded}
-use Rattle.atomic_table.specs.declared.shared.Seat.{Seat}
-use Rattle.jturn.specs.declared.board.View.{View}
 use Rattle.jturn.specs.declared.board.Slot.{Slot}
 use Rattle.jturn.specs.declared.board.Slot.TheVariants.{Away, Same, Added}
 use Rattle.jturn.specs.Steps.{is_away, is_bare}

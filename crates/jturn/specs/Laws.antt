@@ -1,5 +1,5 @@
 -- Laws of what turns make of a pass: nothing makes no entry, and the entries of one turn after another are those of both.
-use Rattle.std.specs.Prelude.{◌≡◌, List, [], ◌∷◌, ◌++◌, refl}
+use Rattle.std.specs.Prelude.{List, [], ◌++◌, refl}
 use Rattle.std.proofs.Common.{sym, ap, ◌∙◌, append_assoc}
 use Rattle.std.proofs.lemmas.List.{append-nil}
 use Rattle.jturn.specs.Pass.{Pass, Grows, StartsWith, entries}

@@ -9,6 +9,7 @@ use std::env;
 
 // The most threads and turns that it takes.
 const MOST_THREADS: u32 = 64;
+
 const MOST_TURNS: u32 = 100_000_000;
 
 fn number(word: &str, most: u32) -> anyhow::Result<u32>

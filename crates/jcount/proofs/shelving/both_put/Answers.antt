@@ -1,5 +1,4 @@
-use Rattle.std.proofs.Common.{rules, ◌≡◌, ℕ, [], ◌++◌, map, ap, ◌∙◌, subst}
-use Rattle.std.specs.List.Sorted.{IsPermutation}
+use Rattle.std.proofs.Common.{rules, ◌≡◌, ◌++◌, ap, ◌∙◌}
 use Rattle.jturn.specs.Pass.{Grows, entries, split_first, split_second}
 use Rattle.jcount.specs.declared.shelf.Line.{Line}
 use Rattle.jcount.proofs.Crossing.{shelves_cross}

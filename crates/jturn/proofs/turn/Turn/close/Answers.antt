@@ -1,4 +1,4 @@
-use Rattle.std.proofs.Common.{◌≡◌, ℕ, ltb, length, sym, ap, ◌∙◌, subst}
+use Rattle.std.proofs.Common.{ℕ, ltb, length, sym, ap, ◌∙◌, subst}
 use Rattle.std.specs.List.Sorted.{IsPermutation}
 use Rattle.jturn.specs.Pass.{Pass, entries}
 use Rattle.jturn.specs.Turned.{Fits, IsOneEntry, times}

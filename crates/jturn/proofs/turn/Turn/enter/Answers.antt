@@ -1,4 +1,4 @@
-use Rattle.std.proofs.Common.{◌≡◌, ap, ◌∙◌}
+use Rattle.std.proofs.Common.{ap, ◌∙◌}
 use Rattle.jturn.proofs.Known.{enters_pass}
 use Rattle.jturn.proofs.turn.Turn.enter.Goals as goal
 
