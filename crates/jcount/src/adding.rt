@@ -1,5 +1,5 @@
 //! What one thread does at a counter.
-ghost use Rattle.std.specs.Prelude.{◌≡◌, ◌≢◌, ℕ, ◌+◌, ◌%◌, ◌^◌, List, [], ◌∷◌, ◌++◌, sum};
+ghost use Rattle.std.specs.Prelude.{◌≡◌, ◌≢◌, ◌%◌, ◌^◌, [], ◌∷◌, sum};
 ghost use Rattle.jturn.specs.Pass.{Grows};
 
 use crate::counter::Counter;

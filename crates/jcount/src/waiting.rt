@@ -1,5 +1,5 @@
 //! Workers that only wait.
-ghost use Rattle.std.specs.Prelude.{◌≡◌, ℕ, ◌+◌, ◌<◌, ◌^◌, [], All, IfOk, vec_len};
+ghost use Rattle.std.specs.Prelude.{◌≡◌, ◌+◌, ◌<◌, ◌^◌, [], All, IfOk, vec_len};
 ghost use Rattle.jturn.specs.Pass.{Grows};
 ghost use Rattle.jcount.specs.Workers.{IsWorker};
 

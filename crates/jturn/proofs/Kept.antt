@@ -17,7 +17,8 @@ use Rattle.jturn.specs.declared.board.Stage.TheVariants.{Idle, Waiting, Holding}
 use Rattle.jturn.specs.Pass.{StartsWith}
 use Rattle.jturn.specs.Turned.{total, one_if, times, has_ticket, queued, holding, IsOneTicket, IsOneEntry, Knows, InSlot, Fits, Home, Turned, IsInside}
 use Rattle.jturn.specs.Steps.{is_idle, is_holding, Right, opened, waits, enters, cut_left, cut_right, glued, spent, drew, compared, stayed, Entered, looked, leaves, served}
-use Rattle.jturn.proofs.Totals.{total_set, total_at, total_two, total_snoc, total_some, total_only, total_le, one_here, none_else, times_append, put_here, starts_self, starts_empty, starts_on, starts_length, starts_both, starts_whole, by_test, alone}
+use Rattle.jturn.specs.Laws.{starts_self, starts_on}
+use Rattle.jturn.proofs.Totals.{total_set, total_at, total_two, total_snoc, total_some, total_only, total_le, one_here, none_else, times_append, put_here, starts_empty, starts_length, starts_both, starts_whole, by_test, alone}
 
 ticket_word : (n : ℕ) → (n % 2 ^ 64 + 1) % 2 ^ 64 ≡ (n + 1) % 2 ^ 64
 ticket_word n = sym (add-mod n 1 (2 ^ 64))

@@ -6,7 +6,7 @@ use Rattle.jturn.specs.declared.board.View.{View}
 use Rattle.jturn.specs.Pass.{Pass, Enters, StartsWith, entries, entries_at}
 use Rattle.jturn.specs.Turned.{IsInside}
 use Rattle.jturn.specs.Steps.{known, waits, enters, glued, is_shorter}
-use Rattle.jturn.proofs.Totals.{starts_self}
+use Rattle.jturn.specs.Laws.{starts_self}
 use Rattle.jturn.proofs.Entries.{entries_begin, entries_joined, entries_more}
 
 module _ {E : Type 0} where

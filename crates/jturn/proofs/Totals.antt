@@ -1,6 +1,5 @@
 -- Totals over the views, and lists that begin alike.
-use Rattle.std.proofs.Common.{◌≡◌, ℕ, zero, suc, ◌+◌, ◌<◌, ◌≤◌, ◌≢◌, Bool, true, false, cond, ltb, eqb, List, [], ◌∷◌, ◌++◌, length, set, sym, refl, ap, ◌∙◌, subst, arith, eq-eqb, ne_eqb, append_assoc, length-append}
-use Rattle.std.proofs.lemmas.List.{append-nil}
+use Rattle.std.proofs.Common.{◌≡◌, ℕ, zero, suc, ◌+◌, ◌<◌, ◌≤◌, ◌≢◌, Bool, true, false, cond, ltb, eqb, List, [], ◌∷◌, ◌++◌, length, set, sym, refl, ap, ◌∙◌, subst, arith, eq-eqb, ne_eqb, length-append}
 use Rattle.std.proofs.lemmas.Bool.{ltb-true, ltb-false}
 use mathlib.Core.Option.{some, some-injective, some-ne-none}
 use mathlib.Core.Logic.{dite}
@@ -66,17 +65,8 @@ module _ {A : Type 0} where
   put_here (x ∷ xs) zero v w e = refl
   put_here (x ∷ xs) (suc i) v w e = put_here xs i v w e
 
-  pub starts_self : (xs : List A) → StartsWith xs xs
-  starts_self xs = ([], sym (append-nil xs))
-
   pub starts_empty : (xs : List A) → StartsWith xs []
   starts_empty xs = (xs, refl)
-
-  pub starts_more : (xs ys more : List A) → StartsWith xs ys → StartsWith (xs ++ more) ys
-  starts_more xs ys more h = (h.0 ++ more, ap (λ l. l ++ more) h.1 ∙ append_assoc ys h.0 more)
-
-  pub starts_on : (xs ys zs : List A) → StartsWith xs ys → StartsWith ys zs → StartsWith xs zs
-  starts_on xs ys zs h k = (k.0 ++ h.0, h.1 ∙ (ap (λ l. l ++ h.0) k.1 ∙ append_assoc zs k.0 h.0))
 
   pub starts_length : (xs ys : List A) → StartsWith xs ys → length ys ≤ length xs
   starts_length xs ys h = omega (arith, ap length h.1, length-append ys h.0)

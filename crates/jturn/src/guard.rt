@@ -1,5 +1,5 @@
 //! Who has the state.
-ghost use Rattle.std.specs.Prelude.{◌≡◌, ℕ, false, [], ◌∷◌, ◌++◌, length};
+ghost use Rattle.std.specs.Prelude.{◌≡◌, false, [], ◌∷◌, ◌++◌};
 ghost use Rattle.jturn.specs.Pass.{Enters, entries, with_entry};
 ghost use Rattle.jturn.specs.Turned.{Fits};
 

@@ -1,6 +1,6 @@
 //! The turn.
-ghost use Rattle.std.specs.Prelude.{◌≡◌, ◌≢◌, ℕ, ◌<◌, ◌≤◌, ◌++◌, [], length, true, IfOk, IsPermutation};
-ghost use Rattle.jturn.specs.Pass.{Enters, StartsWith, entries, first_pass, joined, split_first, split_second};
+ghost use Rattle.std.specs.Prelude.{◌≡◌, ℕ, ◌<◌, ◌≤◌, ◌++◌, [], length, true, IfOk, IsPermutation};
+ghost use Rattle.jturn.specs.Pass.{StartsWith, entries, first_pass, joined, split_first, split_second};
 ghost use Rattle.jturn.specs.Turned.{Fits, IsOneEntry, times};
 
 use crate::board::{Board, Opening, Slot};
