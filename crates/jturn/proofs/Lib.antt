@@ -1,0 +1,7 @@
+pub mod Totals
+pub mod Kept
+pub mod Held
+pub mod Entries
+pub mod Known
+pub mod Grown
+pub mod Crossing

@@ -1,0 +1,6 @@
+use Rattle.std.proofs.Common.{rules, ℕ, ◌+◌, ◌%◌, ◌^◌, ◌-◌}
+use Rattle.jturn.proofs.Kept.{counts_sleepers}
+use Rattle.jturn.proofs.board.Board.get_up.Goals as goal
+
+pub fetch_sub-requires : goal.fetch_sub-requires
+fetch_sub-requires g c = (search rules, search rules, counts_sleepers g.S.Logged.stands_for g.S.Logged.mark g.S.Logged.constant _ (λ (n : ℕ). (n + (2 ^ 64 - 1)) % 2 ^ 64) _ 1 _ _)

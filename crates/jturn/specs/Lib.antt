@@ -1,0 +1,4 @@
+pub mod Pass
+pub mod Turned
+pub mod Steps
+pub mod Laws
