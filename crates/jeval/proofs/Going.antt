@@ -1,5 +1,5 @@
 -- How the execution of a sentence goes on from a place.
-use Rattle.std.proofs.Common.{◌≡◌, ◌≢◌, ◌-◌, ℕ, zero, suc, ◌+◌, ◌<◌, ◌≤◌, List, [], ◌∷◌, ◌++◌, length, take, map, reverse, get_or, Result, Ok, Err, arith, refl, ap, sym, ◌∙◌, subst}
+use Rattle.std.proofs.Common.{◌≡◌, ◌≢◌, ◌-◌, ℕ, zero, suc, ◌+◌, ◌<◌, ◌≤◌, List, [], ◌∷◌, length, take, map, reverse, get_or, Result, Ok, Err, arith, refl, ap, sym, ◌∙◌}
 use Rattle.std.proofs.lemmas.List.{length-reverse, length-map, length-take, reverse-append, take_more}
 use Rattle.std.proofs.Math.Seq.{take-length}
 use Rattle.jdata.specs.declared.fault.Fault.{Fault}
@@ -13,7 +13,7 @@ use Rattle.jdata.specs.declared.fault.Trouble.{Trouble}
 use Rattle.jdata.specs.declared.fault.Trouble.TheVariants as trouble
 use Rattle.jeval.specs.Answers.{Makes, IsRefusal}
 use Rattle.jeval.specs.Parsing.{act_of, act_row}
-use Rattle.jeval.specs.Sentence.{part_of, queue_of, read_on, reached, go_on, and_then, execute}
+use Rattle.jeval.specs.Sentence.{part_of, queue_of, read_on, reached, and_then, execute}
 
 -- a part is read
 pub reads_on : (turns : ℕ) (next : Part) (unread parts : List Part) → act_of parts (suc (length unread)) ≡ act.Shift

@@ -1,5 +1,5 @@
 -- What a line prints (J Dictionary, "Display"; the two lines of a fault are this language's own).
-use Rattle.std.specs.Prelude.{ℕ, ◌<◌, nat_lt, if◌then◌else◌, List, [], ◌∷◌, ◌++◌, codes, length, Result, Ok, Err}
+use Rattle.std.specs.Prelude.{ℕ, nat_lt, if◌then◌else◌, List, [], ◌∷◌, ◌++◌, codes, length, Result, Ok, Err}
 use Rattle.jdata.specs.declared.fault.Fault.{Fault}
 use Rattle.jdata.specs.declared.fault.Fault.TheVariants.{Spelling, Limit}
 use Rattle.jdata.specs.Faults.{text_of}

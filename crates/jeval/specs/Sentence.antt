@@ -1,5 +1,5 @@
 -- The execution of a sentence, from right to left (J Dictionary, "Parsing and Execution").
-use Rattle.std.specs.Prelude.{ℕ, zero, suc, ◌==◌, if◌then◌else◌, List, [], ◌∷◌, ◌++◌, length, map, reverse, slice_index, Result, Ok, Err}
+use Rattle.std.specs.Prelude.{ℕ, zero, suc, ◌==◌, if◌then◌else◌, List, [], ◌∷◌, length, map, reverse, slice_index, Result, Ok, Err}
 use Rattle.jdata.specs.declared.primitive.Primitive.{Primitive}
 use Rattle.jdata.specs.declared.primitive.Primitive.TheVariants.{Plus, Minus, Times}
 use Rattle.jdata.specs.declared.fault.Fault.{Fault}

@@ -1,5 +1,5 @@
 -- What contracts see of a source and a sink in memory.
-use Rattle.std.specs.Prelude.{ℕ, ◌+◌, ◌-◌, ◌^◌, ◌<◌, ◌≡◌, List, Bool, min, Contains}
+use Rattle.std.specs.Prelude.{ℕ, ◌+◌, ◌-◌, ◌^◌, ◌<◌, List, Bool, Contains}
 
 pub record Script : Type 0 where
   -- the bytes that are left

@@ -1,10 +1,10 @@
 -- How cutting goes on from a place.
-use Rattle.std.proofs.Common.{◌≡◌, ℕ, zero, suc, ◌+◌, ◌-◌, ◌<◌, Bool, true, false, List, [], ◌∷◌, ◌++◌, length, drop, slice_index, Some, None, Ok, Err, Result, arith, refl, ap, sym, ◌∙◌, subst, append-nil, append_assoc, length-drop}
+use Rattle.std.proofs.Common.{◌≡◌, ℕ, zero, suc, ◌+◌, ◌-◌, ◌<◌, Bool, true, false, List, [], ◌∷◌, ◌++◌, length, drop, slice_index, Some, None, Ok, Err, Result, arith, refl, ap, sym, ◌∙◌, append_assoc, length-drop}
 use Rattle.std.proofs.lemmas.List.{drop-drop, get_or-drop}
 use Rattle.jwords.specs.declared.word.Word.{Word}
 use Rattle.jwords.specs.declared.word.WordKind.{WordKind}
 use Rattle.jwords.specs.Alphabet.{is_blank}
-use Rattle.jwords.specs.Words.{words_of, words_from, word_at, word, prepend, is_number_word, goes_on}
+use Rattle.jwords.specs.Words.{words_of, words_from, word_at, word, prepend, is_number_word}
 
 -- the bytes of a word that was read are passed over
 pub passes_over : (k at : ℕ) (after : Bool) (rest : List ℕ) → words_from at k after rest ≡ words_from (at + k) 0 after (drop k rest)

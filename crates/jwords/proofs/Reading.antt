@@ -1,12 +1,11 @@
 -- The test of a number and the reading of a run agree.
-use Rattle.std.proofs.Common.{◌≡◌, ℕ, ◌<◌, ◌^◌, ℤ, pos, negsuc, Bool, true, false, nat_lt, ◌&&◌, List, [], ◌∷◌, Some, None, ap, length, arith, refl, sym, subst, inl, inr, FitsSigned}
+use Rattle.std.proofs.Common.{◌≡◌, ℕ, ◌<◌, ℤ, pos, negsuc, true, false, List, [], ◌∷◌, Some, None, ap, length, arith, refl, sym, subst, inl, inr, FitsSigned}
 use Rattle.std.proofs.lemmas.Bool.{cases_Bool}
 use Rattle.std.proofs.lemmas.Bool.Decides.{nat_tests}
-use Rattle.std.proofs.lemmas.Grind.{common_steps}
 use mir.Syntax.{w64}
 use Rattle.std.specs.List.{list_all}
-use Rattle.std.specs.Str.Parse.{AllDigits, IsNumeral}
-use Rattle.jnumber.specs.Spelling.{Spells, digits_in, number_in, underscore}
+use Rattle.std.specs.Str.Parse.{AllDigits}
+use Rattle.jnumber.specs.Spelling.{Spells, digits_in, number_in}
 use Rattle.jnumber.specs.Reading.{IsReading}
 use Rattle.jnumber.specs.declared.reading.Read.TheVariants.{Number, Wide, Not}
 use Rattle.jwords.specs.Numbers.{fits, is_decimal, is_number, number_of}

@@ -1,6 +1,6 @@
-use Rattle.std.proofs.Common.{◌≡◌, ◌∙◌, ◌-◌, sym, ap, refl, arith, []}
+use Rattle.std.proofs.Common.{◌∙◌, ◌-◌, sym, ap, refl, arith, []}
 use Rattle.jeval.specs.Sentence as sentence
-use Rattle.jeval.proofs.Going.{place_reads, place_acts, place_refuses, place_is_late, place_is_done, place_is_unmeant, place_stops, queue_at}
+use Rattle.jeval.proofs.Going.{place_reads, place_acts, place_is_late, place_is_done, place_is_unmeant, place_stops, queue_at}
 use Rattle.jeval.proofs.sentence.execute.Goals as goal
 
 pub returns-in-Done-clause-ok : goal.returns-in-Done-clause-ok

@@ -1,6 +1,6 @@
-use Rattle.std.proofs.Common.{◌≡◌, ◌≤◌, ◌∙◌, ◌-◌, ◌+◌, ◌++◌, ◌∷◌, [], ℕ, List, length, take, drop, ap, sym, subst, arith, Some, length-drop}
+use Rattle.std.proofs.Common.{◌≡◌, ◌≤◌, ◌∙◌, ◌-◌, ◌++◌, ◌∷◌, [], ℕ, List, length, take, drop, ap, sym, subst, arith, Some, length-drop}
 use Rattle.std.proofs.lemmas.Grind.{common_steps}
-use Rattle.jwords.specs.Words.{word_at, words_from, words_of, prepend}
+use Rattle.jwords.specs.Words.{word_at}
 use Rattle.jwords.proofs.Cutting.{one_more}
 use Rattle.jwords.proofs.cut.words.Goals as goal
 

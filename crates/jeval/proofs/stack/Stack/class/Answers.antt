@@ -1,4 +1,4 @@
-use Rattle.std.proofs.Common.{◌∙◌, ap, sym, Some, arith}
+use Rattle.std.proofs.Common.{◌∙◌, ap, Some, arith}
 use Rattle.jeval.specs.Parsing.{class_at}
 use Rattle.jeval.proofs.Classes.{class_read, none_read}
 use Rattle.jeval.proofs.stack.Stack.class.Goals as goal

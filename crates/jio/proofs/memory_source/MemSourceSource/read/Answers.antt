@@ -1,4 +1,4 @@
-use Rattle.std.proofs.Common.{◌≡◌, ◌≤◌, length, take, drop, ◌+◌, ◌++◌, arith, length-take, length-drop}
+use Rattle.std.proofs.Common.{arith}
 use Rattle.std.proofs.lemmas.Grind.{common_steps}
 use Rattle.jio.proofs.Fronts.{next_part}
 use Rattle.jio.proofs.memory_source.MemSourceSource.read.Goals as goal
