@@ -1,4 +1,6 @@
 //! Scripts and what they print, with statuses: what a J user and the session's rules expect.
+ghost use Rattle.std.specs.Prelude.{◌≤◌};
+
 use crate::{Status, run_solo};
 use jio::{MemSink, MemSource};
 use std::alloc::Global;
@@ -125,7 +127,9 @@ fn the_greatest_script_and_line(rt: HostRuntime) -> Result<(), Fail> {
     assert!(rt; long.printed.is_empty());
     let mut line = vec![in rt.alloc(); b'0'; 65_536]?;
     assert_eq!(rt;
-        run_script(rt.alloc(), &line, 65_536, 0, 0)?.printed.as_slice(),
+        run_script(rt.alloc(), &line, 65_536, 0, 0)?
+            .printed
+            .as_slice(),
         b"0\n".as_slice()
     );
     line.push(b'0')?;
