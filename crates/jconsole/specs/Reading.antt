@@ -1,5 +1,5 @@
 -- Why a script isn't read to its end.
-use Rattle.std.specs.Prelude.{ℕ, ◌≡◌, ◌+◌, ◌≤◌, List, length, Option, IfSome}
+use Rattle.std.specs.Prelude.{ℕ, ◌+◌, ◌≤◌, List, length, Option, IfSome}
 use Rattle.jio.specs.Counts.{Rises}
 use Rattle.jconsole.specs.Session.{ReadPastLimit}
 use Rattle.jconsole.specs.declared.outcome.Status.{Status}

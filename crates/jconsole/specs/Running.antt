@@ -1,5 +1,5 @@
 -- What was written of a script's prints.
-use Rattle.std.specs.Prelude.{ℕ, ◌≡◌, ◌≤◌, Bool, List, Option}
+use Rattle.std.specs.Prelude.{ℕ, ◌≡◌, Bool, List, Option}
 use Rattle.std.specs.Io.KnownBytes.{Appends}
 use Rattle.jio.specs.Counts.{Rises}
 use Rattle.jio.specs.Sink.{TookPart}

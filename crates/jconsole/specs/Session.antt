@@ -1,9 +1,7 @@
 -- What a session prints, and why it ends as it does.
-use Rattle.std.specs.Prelude.{ℕ, ◌≡◌, ◌+◌, ◌≤◌, ◌⊎◌, List, flat_map}
+use Rattle.std.specs.Prelude.{ℕ, ◌+◌, ◌≤◌, List, flat_map}
 use Rattle.jwords.specs.Lines.{lines_of}
 use Rattle.jeval.specs.Printing.{prints_of}
-use Rattle.jconsole.specs.declared.outcome.Status.{Status}
-use Rattle.jconsole.specs.declared.outcome.Status.TheVariants as status
 
 -- the prints of the script's lines, in order
 abbrev pub prints_of_script : ℕ → List ℕ → List ℕ

@@ -24,8 +24,14 @@ pub struct Outcome {
 }
 
 impl Status {
+    ghost use Rattle.std.specs.Prelude.{◌≡◌};
+    ghost use Rattle.std.specs.Option.{option_copied};
+    ghost use Rattle.jconsole.specs.Statuses.{exit_code_of, message_of};
+
     /// The exit status of the program.
-    pub fn exit_code(self) -> u8 {
+    pub fn exit_code(self) -> u8
+        ensures { result ≡ exit_code_of self }
+    {
         match self {
             Status::Done => 0,
             Status::Usage => 1,
@@ -37,7 +43,9 @@ impl Status {
     }
 
     /// What standard error says of it, behind the program's name.
-    pub fn message(self) -> Option<&'static str> {
+    pub fn message(self) -> Option<&'static str>
+        ensures { option_copied result ≡ message_of self }
+    {
         match self {
             Status::Done => None,
             Status::Usage => Some("usage"),

@@ -1,5 +1,5 @@
 //! Prints kept in memory, some of whose writes can be made to fail.
-ghost use Rattle.std.specs.Prelude.{◌≡◌, ◌≤◌, ◌<◌, ◌+◌, ◌-◌, ◌^◌, ◌↔◌, ℕ, List, [], true, IsTrue};
+ghost use Rattle.std.specs.Prelude.{◌≡◌, ◌≤◌, ◌<◌, ◌+◌, ◌-◌, ◌^◌, ◌↔◌, ℕ, List, [], true, min, IsTrue};
 ghost use Rattle.jio.specs.Memory.{NextFails};
 
 use crate::sink::{Sent, Sink};
@@ -54,6 +54,7 @@ impl MemSink {
         ensures fails { IsTrue result ↔ NextFails self.old.calls self.old.failing }
         ensures same { (self.new.taken ≡ self.old.taken) × (self.new.whole ≡ self.old.whole) × (self.new.failing ≡ self.old.failing) }
         ensures faults { self.new.faults ≡ self.old.faults }
+        ensures calls { self.new.calls ≡ min (self.old.calls + 1) (2 ^ 64 - 1) }
         ensures room { IsTrue result → self.new.faults < self.new.calls }
     {
         if self.calls == u64::MAX {
@@ -65,7 +66,12 @@ impl MemSink {
 }
 
 impl Sink for MemSink {
-    ghost use Rattle.std.specs.Prelude.{Some};
+    ghost use Rattle.std.specs.Prelude.{◌≡◌, ◌≤◌, ◌+◌, ◌-◌, ◌^◌, ◌↔◌, min, false, Some};
+    ghost use Rattle.std.specs.Io.KnownBytes.{Appends};
+    ghost use Rattle.jio.specs.Sink.{OnAll, OnNoMemory, OnFailed, TookPart};
+    ghost use Rattle.jio.specs.Counts.{Rises};
+    ghost use Rattle.jio.specs.Memory.{NextFails};
+    ghost use Rattle.jio.specs.declared.sink.Sent.TheVariants as sent;
 
     ghost took = { λ s. Some s.taken };
 
@@ -73,7 +79,20 @@ impl Sink for MemSink {
 
     ghost whole = { λ s. s.whole };
 
-    fn write(&mut self, piece: &[u8]) -> Sent {
+    fn write(&mut self, piece: &[u8]) -> Sent
+        ensures all { OnAll result (Appends (Some self.old.taken) (Some self.new.taken) piece.now
+            × (self.new.faults ≡ self.old.faults) × (self.new.whole ≡ self.old.whole)) }
+        ensures no_memory { OnNoMemory result ((Some self.new.taken ≡ Some self.old.taken) × (self.new.whole ≡ false)) }
+        ensures failed { OnFailed result (TookPart (Some self.old.taken) (Some self.new.taken) piece.now
+            × Rises self.old.faults self.new.faults × (self.new.whole ≡ false)) }
+        ensures count { self.old.faults ≤ self.new.faults }
+
+        // Just the calls of the list fail, and a failing call takes nothing.
+        ensures fails { (result ≡ sent.Failed) ↔ NextFails self.old.calls self.old.failing }
+        ensures nothing { result ≡ sent.Failed → self.new.taken ≡ self.old.taken }
+        ensures list { self.new.failing ≡ self.old.failing }
+        ensures calls { self.new.calls ≡ min (self.old.calls + 1) (2 ^ 64 - 1) }
+    {
         if self.begin_call() {
             self.faults += 1;
             self.whole = false;

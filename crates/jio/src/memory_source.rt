@@ -2,6 +2,7 @@
 ghost use Rattle.std.specs.Prelude.{◌≡◌, ◌≤◌, ◌<◌, ◌+◌, ◌-◌, ◌^◌, ◌↔◌, ℕ, List, length, take, drop, min, IsTrue};
 ghost use Rattle.jio.specs.Source.{GaveBytes, GaveNothing, OnBytes, OnEnd, OnFailed};
 ghost use Rattle.jio.specs.Counts.{Rises};
+ghost use Rattle.jio.specs.declared.source.Got.TheVariants as got;
 ghost use Rattle.jio.specs.Memory.{NextFails};
 ghost use Rattle.std.specs.Io.KnownBytes.{IsAtEnd};
 
@@ -60,6 +61,7 @@ impl MemSource {
         ensures fails { IsTrue result ↔ NextFails self.old.calls self.old.failing }
         ensures same { (self.new.left ≡ self.old.left) × (self.new.given ≡ self.old.given) × (self.new.most ≡ self.old.most) × (self.new.failing ≡ self.old.failing) }
         ensures faults { self.new.faults ≡ self.old.faults }
+        ensures calls { self.new.calls ≡ min (self.old.calls + 1) (2 ^ 64 - 1) }
         ensures room { IsTrue result → self.new.faults < self.new.calls }
     {
         if self.calls == u64::MAX {
@@ -81,7 +83,12 @@ fn copy_front(from: &[u8], most: usize, into: &mut [u8]) -> usize
 }
 
 impl Source for MemSource {
-    ghost use Rattle.std.specs.Prelude.{Some};
+    ghost use Rattle.std.specs.Prelude.{◌≡◌, ◌≤◌, ◌<◌, ◌+◌, ◌-◌, ◌^◌, ◌↔◌, min, length, take, Some};
+    ghost use Rattle.std.specs.Io.KnownBytes.{IsAtEnd};
+    ghost use Rattle.jio.specs.Source.{GaveBytes, GaveNothing, OnBytes, OnEnd, OnFailed};
+    ghost use Rattle.jio.specs.Counts.{Rises};
+    ghost use Rattle.jio.specs.Memory.{NextFails};
+    ghost use Rattle.jio.specs.declared.source.Got.TheVariants as got;
 
     ghost left = { λ s. Some s.left };
 
@@ -89,7 +96,22 @@ impl Source for MemSource {
 
     ghost faults = { λ s. s.faults };
 
-    fn read(&mut self, into: &mut [u8]) -> Got {
+    fn read(&mut self, into: &mut [u8]) -> Got
+        requires { 0 < length into.old }
+        ensures bytes { OnBytes result (λ n. (1 ≤ n) × (n ≤ length into.new)
+            × GaveBytes (Some self.old.left) (Some self.new.left) self.old.given self.new.given (take n into.new)) }
+        ensures end { OnEnd result (GaveNothing (Some self.old.left) (Some self.new.left) self.old.given self.new.given
+            × IsAtEnd (Some self.new.left)) }
+        ensures failed { OnFailed result (GaveNothing (Some self.old.left) (Some self.new.left) self.old.given self.new.given
+            × Rises self.old.faults self.new.faults) }
+        ensures count { self.old.faults ≤ self.new.faults }
+
+        // Just the calls of the list fail, and no call gives more than it may.
+        ensures fails { (result ≡ got.Failed) ↔ NextFails self.old.calls self.old.failing }
+        ensures most { OnBytes result (λ n. n ≤ self.old.most) }
+        ensures list { (self.new.failing ≡ self.old.failing) × (self.new.most ≡ self.old.most) }
+        ensures calls { self.new.calls ≡ min (self.old.calls + 1) (2 ^ 64 - 1) }
+    {
         if self.begin_call() {
             self.faults += 1;
             return Got::Failed;

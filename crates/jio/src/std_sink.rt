@@ -1,5 +1,5 @@
 //! Prints written to one of std's writers.
-ghost use Rattle.std.specs.Prelude.{◌≡◌, ◌≤◌};
+ghost use Rattle.std.specs.Prelude.{◌≡◌, ◌≤◌, true};
 
 use crate::counts::risen;
 use crate::sink::{Sent, Sink};
@@ -15,7 +15,9 @@ pub struct StdSink<W: Write> {
 }
 
 impl<W: Write> StdSink<W> {
-    pub fn new(to: W) -> StdSink<W> {
+    pub fn new(to: W) -> StdSink<W>
+        ensures { (result.faults ≡ 0) × (result.whole ≡ true) }
+    {
         StdSink {
             to,
             faults: 0,

@@ -16,7 +16,9 @@ pub struct StdSource<R: Read> {
 }
 
 impl<R: Read> StdSource<R> {
-    pub fn new(from: R) -> StdSource<R> {
+    pub fn new(from: R) -> StdSource<R>
+        ensures { (result.given ≡ 0) × (result.faults ≡ 0) }
+    {
         StdSource {
             from,
             given: 0,

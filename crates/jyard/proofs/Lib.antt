@@ -1,0 +1,15 @@
+pub mod Marks
+pub mod Rounds
+pub mod Parts
+pub mod Fields
+pub mod Offsets
+pub mod Turns
+pub mod Together
+pub mod Laws
+pub mod Steps
+pub mod Tally
+pub mod Strips
+pub mod Laying
+pub mod Sent
+pub mod Crossing
+pub mod Rights

@@ -1,0 +1,96 @@
+// The calls of a hold. Each takes the yard by reference, with the condition that the hold is of it, and the pass too. None takes memory.
+ghost use Rattle.std.specs.Prelude.{◌≡◌, ℕ, [], ◌++◌, ◌<◌, ◌≤◌, length, true, is_some, Some, None, IfOk, IfErr, IfSome};
+ghost use Rattle.std.specs.Borrow.{LendsIfOk, sem};
+ghost use Rattle.jyard.specs.contracts.hold.Hold.{the_row};
+ghost use Rattle.jyard.specs.Reads.{SharedBy, LeftBy};
+ghost use Rattle.jyard.specs.Sole.{with_payload, refused, word_in};
+ghost use Rattle.jyard.specs.Units.{IsHolding, id_at};
+ghost use Rattle.jyard.specs.Yards.{blocks_of, IsHoldOf, IsPassOf};
+
+use crate::hold::{Held, Hold, MOST, NoShare};
+use crate::table::Table;
+use crate::yard::{Yard, YardPass};
+use std::mem;
+
+impl<T> Hold<T> {
+    /// The payload. Several holds may read it at once, on several threads.
+    pub fn items<'a>(&'a self, yard: &'a Yard<T>) -> &'a T
+        requires { IsHoldOf (blocks_of yard.now) self.now }
+        ensures { Some result.now ≡ self.now.seat.value }
+    {
+        match self.seat.get(yard.table(), self.block as usize) {
+            Some(value) => value,
+            None => unreachable!(),
+        }
+    }
+
+    /// A second hold of the same block.
+    pub fn share(&mut self, yard: &Yard<T>) -> Result<Hold<T>, NoShare>
+        requires { IsHoldOf (blocks_of yard.now) self.old }
+        ensures hold { IsHoldOf (blocks_of yard.now) self.new × (self.new.block ≡ self.old.block) × (self.new.seat.value ≡ self.old.seat.value) }
+        ensures new { IfOk result (λ h. IsHoldOf (blocks_of yard.now) h × (h.block ≡ self.old.block) × (h.seat.value ≡ self.old.seat.value) × (h.seat.reads ≡ [])) }
+        ensures reads { SharedBy result self.old.seat.reads self.new.seat.reads self.old.seat.id }
+    {
+        let at = self.block as usize;
+        let table = yard.table();
+        let word = table.look(&mut self.seat, at);
+        if word == MOST {
+            return Err(NoShare::Many { count: word - 1 });
+        }
+        let (found, seat) = table.share(&mut self.seat, at, word);
+        if found != word {
+            return Err(NoShare::Moved {
+                expected: word,
+                found,
+            });
+        }
+        let block = self.block;
+        Ok(Hold { block, seat })
+    }
+
+    /// The payload to write, where the word read says that this is the only hold. A write through it changes this hold's value and no other's.
+    pub fn sole<'a>(&'a mut self, yard: &'a Yard<T>) -> Result<&'a mut T, Held>
+        requires { IsHoldOf (blocks_of yard.now) self.old }
+        ensures* writes_back { sem 𝓛 (LendsIfOk (the_row T.row) T.row self.entry result (with_payload self.old) (refused self.old (word_in result))) }
+        ensures value { IfOk result (λ r. Some r.now ≡ self.old.seat.value) }
+        ensures held { IfErr result (λ e. (2 ≤ e.count) × (e.count < 4294967295)) }
+    {
+        let at = self.block as usize;
+        let table = yard.table();
+        self.sole_at(table, at)
+    }
+
+    fn sole_at<'a>(&'a mut self, table: &'a Table<Option<T>>, at: usize) -> Result<&'a mut T, Held>
+        requires { (at < length table.now.ids) × IsHolding self.old.seat.right × (self.old.seat.id ≡ id_at table.now.ids at) × (is_some self.old.seat.value ≡ true) }
+        ensures* writes_back { sem 𝓛 (LendsIfOk (the_row T.row) T.row self.entry result (with_payload self.old) (refused self.old (word_in result))) }
+        ensures value { IfOk result (λ r. Some r.now ≡ self.old.seat.value) }
+        ensures held { IfErr result (λ e. (2 ≤ e.count) × (e.count < 4294967295)) }
+    {
+        match self.seat.sole(table, at) {
+            Ok(cell) => match cell {
+                Some(value) => Ok(value),
+                None => unreachable!(),
+            },
+            Err(word) => Err(Held { count: word - 1 }),
+        }
+    }
+
+    /// Gives the unit back. The last one gives the payload out.
+    pub fn leave(self, yard: &Yard<T>, pass: &mut YardPass) -> Option<T>
+        requires { IsHoldOf (blocks_of yard.now) self × IsPassOf (blocks_of yard.now) pass.old }
+        ensures pass { IsPassOf (blocks_of yard.now) pass.new × (pass.new.next ≡ pass.old.next) }
+        ensures value { IfSome result (λ v. Some v ≡ self.seat.value) }
+        ensures reads { LeftBy result (pass.old.view.reads ++ self.seat.reads) pass.new.view.reads self.seat.id }
+    {
+        let Hold { block, seat } = self;
+        let at = block as usize;
+        let table = yard.table();
+        let (found, mut seat) = table.leave(seat, at, &mut pass.view);
+        if found != 2 {
+            return None;
+        }
+        let value = mem::replace(seat.get_mut(table, at), None);
+        table.free(seat, at);
+        value
+    }
+}
