@@ -4,7 +4,7 @@ use Rattle.std.proofs.lemmas.List.{length-reverse, length-map, length-take, reve
 use Rattle.std.proofs.Math.Seq.{take-length}
 use Rattle.jdata.specs.declared.fault.Fault.{Fault}
 use Rattle.jdata.specs.declared.fault.Fault.TheVariants.{Syntax, TimeLimit}
-use Rattle.jwords.specs.declared.word.Word.{Word}
+use Rattle.jeval.specs.declared.word.Word.{Word}
 use Rattle.jeval.specs.declared.part.Part.{Part}
 use Rattle.jeval.specs.declared.part.Part.TheVariants.{Mark}
 use Rattle.jeval.specs.declared.step.Act.{Act}

@@ -1,6 +1,6 @@
 -- A line without words prints nothing.
 use Rattle.std.proofs.Common.{◌≡◌, ℕ, List, [], ◌∷◌, length, Ok, arith, ap}
-use Rattle.jwords.specs.declared.word.Word.{Word}
+use Rattle.jeval.specs.declared.word.Word.{Word}
 use Rattle.jeval.specs.Printing.{sentence_lines, outcome_lines}
 use Rattle.jeval.proofs.Going.{nothing_said}
 

@@ -1,3 +1,6 @@
+pub mod Alphabet
+pub mod Numbers
+pub mod Words
 pub mod Verbs
 pub mod Parsing
 pub mod Sentence

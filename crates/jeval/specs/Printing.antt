@@ -4,10 +4,10 @@ use Rattle.jdata.specs.declared.fault.Fault.{Fault}
 use Rattle.jdata.specs.declared.fault.Fault.TheVariants.{Spelling, Limit}
 use Rattle.jdata.specs.Faults.{text_of}
 use Rattle.jnumber.specs.Spelling.{written}
-use Rattle.jwords.specs.declared.word.Word.{Word}
+use Rattle.jeval.specs.declared.word.Word.{Word}
 use Rattle.jwords.specs.Alphabet.{line_feed}
 use Rattle.jwords.specs.Trim.{trimmed}
-use Rattle.jwords.specs.Words.{words_of}
+use Rattle.jeval.specs.Words.{words_of}
 use Rattle.jeval.specs.declared.part.Part.{Part}
 use Rattle.jeval.specs.declared.part.Part.TheVariants.{Mark, Verb, Noun}
 use Rattle.jeval.specs.Sentence.{queue_of, execute}

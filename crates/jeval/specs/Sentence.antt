@@ -4,9 +4,9 @@ use Rattle.jdata.specs.declared.primitive.Primitive.{Primitive}
 use Rattle.jdata.specs.declared.primitive.Primitive.TheVariants.{Plus, Minus, Times}
 use Rattle.jdata.specs.declared.fault.Fault.{Fault}
 use Rattle.jdata.specs.declared.fault.Fault.TheVariants.{Syntax, TimeLimit}
-use Rattle.jwords.specs.declared.word.Word.{Word}
-use Rattle.jwords.specs.declared.word.WordKind.{WordKind}
-use Rattle.jwords.specs.declared.word.WordKind.TheVariants.{Number, Graphic}
+use Rattle.jeval.specs.declared.word.Word.{Word}
+use Rattle.jeval.specs.declared.word.WordKind.{WordKind}
+use Rattle.jeval.specs.declared.word.WordKind.TheVariants.{Number, Graphic}
 use Rattle.jwords.specs.Alphabet.{plus_sign, minus_sign}
 use Rattle.jeval.specs.declared.part.Part.{Part}
 use Rattle.jeval.specs.declared.part.Part.TheVariants.{Mark, Verb, Noun}

@@ -5,7 +5,7 @@ use Rattle.jdata.specs.declared.primitive.Primitive.{Primitive}
 use Rattle.jdata.specs.declared.primitive.Primitive.TheVariants.{Plus, Minus, Times}
 use Rattle.jdata.specs.declared.fault.Fault.{Fault}
 use Rattle.jdata.specs.declared.fault.Fault.TheVariants.{Nonce}
-use Rattle.jwords.specs.Numbers.{fits}
+use Rattle.jeval.specs.Numbers.{fits}
 
 -- a number within 64 signed bits; one beyond isn't built
 abbrev pub fitted : ℤ → Result ℤ Fault

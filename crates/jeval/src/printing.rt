@@ -5,11 +5,13 @@ ghost use Rattle.jnumber.specs.Spelling.{written};
 ghost use Rattle.jwords.specs.Alphabet.{line_feed};
 ghost use Rattle.jeval.specs.Printing as printing;
 
+use crate::cut::words;
 use crate::part::Part;
 use crate::sentence::execute;
 use crate::stack::Stack;
+use crate::word::{Word, WordFault};
 use jdata::{Fault, NoMemory, Trouble};
-use jwords::{Word, WordFault, trimmed, words};
+use jwords::trimmed;
 use std::alloc::Global;
 
 /// How many bytes a line may have.

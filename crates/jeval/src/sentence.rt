@@ -8,8 +8,8 @@ use crate::part::Part;
 use crate::rows::act;
 use crate::stack::Stack;
 use crate::step::{Act, step};
+use crate::word::{Word, WordKind};
 use jdata::{Fault, NoMemory, Primitive, Trouble};
-use jwords::{Word, WordKind};
 use std::alloc::Global;
 
 // The byte at a place, and 0 past the end.

@@ -1,9 +1,11 @@
 -- Blanks at the ends of a line.
-use Rattle.std.proofs.Common.{◌≡◌, ℕ, zero, suc, ◌-◌, ◌<◌, ◌≤◌, inl, inr, true, false, List, [], ◌∷◌, length, take, drop, slice_index, arith, refl, ap, sym, ◌∙◌}
+use Rattle.std.proofs.Common.{◌≡◌, ℕ, zero, suc, ◌+◌, ◌-◌, ◌<◌, ◌≤◌, ◌⊎◌, inl, inr, ◌&&◌, Bool, true, false, List, [], ◌∷◌, length, take, drop, slice_index, arith, refl, ap, sym, ◌∙◌}
 use Rattle.std.specs.List.{list_all}
 use Rattle.std.proofs.lemmas.Bool.{cases_Bool}
+use Rattle.std.proofs.lemmas.Grind.{common_steps}
+use Rattle.std.proofs.lemmas.Bool.Decides.{nat_tests}
 use Rattle.jwords.specs.Alphabet.{is_blank}
-use Rattle.jwords.specs.Trim.{without_trailing}
+use Rattle.jwords.specs.Trim.{without_leading, without_trailing}
 
 -- a byte that is no blank isn't among blanks
 pub not_all : (n : ℕ) (text : List ℕ) → n < length text → is_blank (slice_index text n) ≡ false → list_all is_blank text ≡ false

@@ -1,4 +1,12 @@
-pub mod Reading
-pub mod Cutting
-pub mod Ends
+pub mod ListedWords
+pub mod NameParts
+pub mod QuotedTexts
+pub mod NumberLists
+pub mod FoundWords
+pub mod CutSteps
+pub mod Outcomes
+pub mod Decisions
+pub mod FindsWords
+pub mod FindsSpans
 pub mod Blanks
+pub mod Ends

@@ -1,5 +1,5 @@
--- The characters of words (J Dictionary, "Alphabet and Words").
-use Rattle.std.specs.Prelude.{ℕ, Bool, ◌==◌, ◌||◌, ◌&&◌, nat_le}
+-- The bytes that word formation tells apart (J Dictionary, "Alphabet").
+use Rattle.std.specs.Prelude.{ℕ, Bool, ◌==◌, nat_le, ◌&&◌, ◌||◌, List, slice_index}
 
 abbrev pub tab : ℕ
 tab = 9
@@ -13,8 +13,11 @@ carriage_return = 13
 abbrev pub space : ℕ
 space = 32
 
-abbrev pub times_sign : ℕ
-times_sign = 42
+abbrev pub quote : ℕ
+quote = 39
+
+abbrev pub underscore : ℕ
+underscore = 95
 
 abbrev pub plus_sign : ℕ
 plus_sign = 43
@@ -28,30 +31,34 @@ point = 46
 abbrev pub colon : ℕ
 colon = 58
 
-abbrev pub underscore : ℕ
-underscore = 95
-
-abbrev pub is_blank : ℕ → Bool
+unfoldable pub is_blank : ℕ → Bool
 is_blank byte = byte == space || byte == tab
 
-abbrev pub is_digit : ℕ → Bool
+unfoldable pub is_digit : ℕ → Bool
 is_digit byte = nat_le 48 byte && nat_le byte 57
 
-abbrev pub is_letter : ℕ → Bool
+unfoldable pub is_letter : ℕ → Bool
 is_letter byte = (nat_le 65 byte && nat_le byte 90) || (nat_le 97 byte && nat_le byte 122)
 
--- what a number begins with
-abbrev pub begins_number : ℕ → Bool
-begins_number byte = is_digit byte || byte == underscore
+unfoldable pub is_alphanumeric : ℕ → Bool
+is_alphanumeric byte = is_letter byte || is_digit byte
 
--- what a run that began as a number goes on with
-abbrev pub is_in_run : ℕ → Bool
-is_in_run byte = is_letter byte || is_digit byte || byte == underscore || byte == point
+-- what a name is made of
+unfoldable pub is_name_byte : ℕ → Bool
+is_name_byte byte = is_alphanumeric byte || byte == underscore
 
--- what makes another word of the one before it
-abbrev pub is_inflection : ℕ → Bool
+-- what starts a number
+unfoldable pub is_number_start : ℕ → Bool
+is_number_start byte = is_digit byte || byte == underscore
+
+-- what a number's run is made of
+unfoldable pub is_number_byte : ℕ → Bool
+is_number_byte byte = is_name_byte byte || byte == point
+
+-- what inflects a word
+unfoldable pub is_inflection : ℕ → Bool
 is_inflection byte = byte == point || byte == colon
 
--- the verbs that are built
-abbrev pub is_verb : ℕ → Bool
-is_verb byte = byte == plus_sign || byte == minus_sign || byte == times_sign
+-- the first byte, or 0 where there is none
+abbrev pub first : List ℕ → ℕ
+first bytes = slice_index bytes 0

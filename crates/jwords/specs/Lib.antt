@@ -1,5 +1,12 @@
 pub mod Alphabet
 pub mod Lines
-pub mod Numbers
-pub mod Words
 pub mod Trim
+pub mod Names
+pub mod Places
+pub mod Listed
+pub mod Texts
+pub mod Runs
+pub mod Cuts
+pub mod Words
+pub mod Spans
+pub mod Laws

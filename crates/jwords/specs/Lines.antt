@@ -1,6 +1,6 @@
 -- The lines of a script: a line ends at a line feed, a carriage return before it is dropped, and the last line may
 -- lack its end.
-use Rattle.std.specs.Prelude.{ℕ, ◌==◌, Bool, false, ◌&&◌, if◌then◌else◌, List, [], ◌∷◌}
+use Rattle.std.specs.Prelude.{ℕ, ◌==◌, Bool, true, false, ◌&&◌, if◌then◌else◌, List, [], ◌∷◌}
 use Rattle.jwords.specs.Alphabet.{line_feed, carriage_return}
 
 -- the byte begins the first line

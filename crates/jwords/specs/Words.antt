@@ -1,68 +1,86 @@
--- Word formation (J Dictionary, "Alphabet and Words"), as far as it is built: single integers and three verbs.
--- At every place that no earlier word covers stands a blank, or the longest word that starts there; where there
--- is none, the line has a fault at that place.
-use Rattle.std.specs.Prelude.{◌≡◌, ℕ, zero, suc, ◌+◌, ◌-◌, ◌==◌, Bool, false, true, not, ◌&&◌, ◌||◌, ℤ, if◌then◌else◌, List, [], ◌∷◌, take, slice_index, ◌++◌, Option, Some, None, Result, Ok, Err}
+-- Word formation: the words of a line, or the first fault from the left (J Dictionary, "Words";
+-- NuVoc, "Words"). Each rule goes by the first byte of what is left of the line.
+use Rattle.std.specs.Prelude.{◌≡◌, ◌≢◌, ℕ, ◌+◌, ◌==◌, ◌&&◌, ◌||◌, not, Bool, true, ◌⊎◌, List, [], ◌∷◌, length, take, drop, codes, slice_index, Result, Ok, Err, MatchResult}
+use Rattle.std.specs.Bool.{MatchBool}
+use Rattle.std.specs.Str.{bytes_eq}
 use Rattle.jwords.specs.declared.word.Word.{Word}
-use Rattle.jwords.specs.declared.word.WordKind.{WordKind}
-use Rattle.jwords.specs.declared.word.WordKind.TheVariants.{Number, Graphic}
+use Rattle.jwords.specs.declared.word.WordKind.TheVariants.{Name, Inflected, Number, Text, Graphic, Comment}
 use Rattle.jwords.specs.declared.word.WordFault.{WordFault}
-use Rattle.jwords.specs.declared.word.WordFault.TheVariants.{Spelling, NoMemory}
-use Rattle.jwords.specs.Alphabet.{is_blank, begins_number, is_in_run, is_inflection, is_verb, colon}
-use Rattle.jwords.specs.Numbers.{number_of}
+use Rattle.jwords.specs.declared.word.WordFault.TheVariants.{OpenQuote, Spelling, IllFormed}
+use Rattle.jwords.specs.Alphabet.{quote, colon, first, is_letter, is_number_start, is_inflection}
+use Rattle.jwords.specs.Names.{IsName}
+use Rattle.jwords.specs.Listed.{is_symbol, is_constant, IsInflectedWord}
+use Rattle.jwords.specs.Texts.{IsQuoted}
+use Rattle.jwords.specs.Runs.{name_length, inflected_length, run_length, symbol_length, IsNoNumber, BeginsNumber, IsList}
+use Rattle.jwords.specs.Cuts.{word_of, IsOutcome}
 
--- how many bytes at the front belong to the run that begins there
-abbrev pub run_length : List ℕ → ℕ
-run_length [] = 0
-run_length (byte ∷ rest) = if is_in_run byte then suc (run_length rest) else 0
+-- what is found is the word where a fact holds, and else the fault
+abbrev pub Judged : Result Word WordFault → Type 0 → Word → WordFault → Type 0
+Judged found holds word fault = MatchResult found (λ w. holds × (w ≡ word)) (λ f. (¬ holds) × (f ≡ fault))
 
--- a number word with the length of its run
-abbrev pub number_word : ℕ → Option ℤ → Option (WordKind × ℕ)
-number_word size None = None
-number_word size (Some number) = Some (Number number, size)
+-- a quote starts a text up to the quote that closes it
+abbrev pub FindsText : ℕ → List ℕ → Result Word WordFault → Type 0
+FindsText at rest found = MatchResult found
+    (λ w. (size : ℕ) × IsQuoted rest size × (w ≡ word_of Text at size))
+    (λ f. ((size : ℕ) → ¬ IsQuoted rest size) × (f ≡ OpenQuote at))
 
--- the number that begins here, with its length: none beside another number, before a colon, or beyond 64 bits
-abbrev pub number_at : Bool → List ℕ → Option (WordKind × ℕ)
-number_at after_number text =
-    if after_number || slice_index text (run_length text) == colon then None
-    else number_word (run_length text) (number_of (take (run_length text) text))
+-- a letter's run without inflection must be a name
+abbrev pub FindsBareName : ℕ → List ℕ → Result Word WordFault → Type 0
+FindsBareName at rest found =
+    Judged found (IsName (take (inflected_length rest) rest)) (word_of Name at (inflected_length rest)) (Spelling at)
 
--- the verb that begins here: a graphic character that nothing inflects
-abbrev pub verb_at : List ℕ → Option (WordKind × ℕ)
-verb_at text = if is_verb (slice_index text 0) && not (is_inflection (slice_index text 1)) then Some (Graphic, 1) else None
+-- with inflection it must be a listed word; but `NB.` starts a comment up to the end
+abbrev pub FindsInflected : ℕ → List ℕ → Result Word WordFault → Type 0
+FindsInflected at rest found =
+    MatchBool (bytes_eq (take (inflected_length rest) rest) (codes "NB."))
+    (found ≡ Ok (word_of Comment at (length rest)))
+    (Judged found (IsInflectedWord (take (inflected_length rest) rest)) (word_of Inflected at (inflected_length rest)) (Spelling at))
 
--- the word that begins here, with its length
-abbrev pub word_at : Bool → List ℕ → Option (WordKind × ℕ)
-word_at after_number text = if begins_number (slice_index text 0) then number_at after_number text else verb_at text
+-- a letter starts a name or an inflected word
+abbrev pub FindsName : ℕ → List ℕ → Result Word WordFault → Type 0
+FindsName at rest found =
+    MatchBool (inflected_length rest == name_length rest) (FindsBareName at rest found) (FindsInflected at rest found)
 
-abbrev pub is_number_word : WordKind → Bool
-is_number_word (Number number) = true
-is_number_word Graphic = false
+-- numbers that stand next to each other are a word; a run that is no number is a fault
+abbrev pub FindsNumberList : ℕ → List ℕ → Result Word WordFault → Type 0
+FindsNumberList at rest found = MatchResult found
+    (λ w. (size : ℕ) × IsList BeginsNumber rest size × (w ≡ word_of Number at size))
+    (λ f. IsNoNumber rest × (f ≡ IllFormed at))
 
-abbrev pub word : WordKind → ℕ → ℕ → Word
-word kind start end = record { kind = kind; start = start; end = end }
+-- a digit or an underscore starts a constant verb, where a colon follows its run, or a list of numbers
+abbrev pub FindsNumber : ℕ → List ℕ → Result Word WordFault → Type 0
+FindsNumber at rest found =
+    MatchBool (slice_index rest (run_length rest) == colon)
+    (Judged found (is_constant (take (run_length rest + 1) rest) ≡ true) (word_of Inflected at (run_length rest + 1)) (Spelling at))
+    (FindsNumberList at rest found)
 
-abbrev pub prepend : List Word → Result (List Word) ℕ → Result (List Word) ℕ
-prepend before (Ok words) = Ok (before ++ words)
-prepend before (Err at) = Err at
+-- the first two bytes are these
+abbrev pub starts_doubled : ℕ → List ℕ → Bool
+starts_doubled byte rest = first rest == byte && slice_index rest 1 == byte
 
--- what begins at a place where no blank stands: a word and what comes after it, or a fault at the place
-abbrev pub goes_on : Option (WordKind × ℕ) → ℕ → (ℕ → Bool → Result (List Word) ℕ) → Result (List Word) ℕ
-goes_on None at after = Err at
-goes_on (Some (kind, size)) at after = prepend (word kind at (at + size) ∷ []) (after (size - 1) (is_number_word kind))
+-- `{{` and `}}` are words unless a point or a colon follows
+abbrev pub is_brace_pair : List ℕ → Bool
+is_brace_pair rest = (starts_doubled 123 rest || starts_doubled 125 rest) && not (is_inflection (slice_index rest 2))
 
--- the words from a place on, or the place of the first fault; the first bytes, so many, belong to a word that was read
-abbrev pub words_from : ℕ → ℕ → Bool → List ℕ → Result (List Word) ℕ
-words_from at covered after_number [] = Ok []
-words_from at (suc covered) after_number (byte ∷ rest) = words_from (at + 1) covered after_number rest
-words_from at zero after_number (byte ∷ rest) =
-    if is_blank byte then words_from (at + 1) zero after_number rest
-    else goes_on (word_at after_number (byte ∷ rest)) at (λ covered number. words_from (at + 1) covered number rest)
+-- any other byte starts a symbol with all points and colons directly after it, which must be a listed one
+abbrev pub FindsSymbol : ℕ → List ℕ → Result Word WordFault → Type 0
+FindsSymbol at rest found =
+    MatchBool (is_brace_pair rest)
+    (found ≡ Ok (word_of Graphic at 2))
+    (Judged found (is_symbol (take (symbol_length rest) rest) ≡ true) (word_of Graphic at (symbol_length rest)) (Spelling at))
 
--- the words of a line, or the place of its first fault
-abbrev pub words_of : List ℕ → Result (List Word) ℕ
-words_of line = words_from 0 0 false line
+-- the word, or the fault, that the rest of a text from a place on begins with
+abbrev pub Finds : ℕ → List ℕ → Result Word WordFault → Type 0
+Finds at rest found =
+    MatchBool (first rest == quote) (FindsText at rest found)
+    (MatchBool (is_letter (first rest)) (FindsName at rest found)
+    (MatchBool (is_number_start (first rest)) (FindsNumber at rest found)
+    (FindsSymbol at rest found)))
 
--- the answer says where the line's first fault is, or that there was no memory
-abbrev pub IsFaultOf : List ℕ → WordFault → Type 0
-IsFaultOf line (Spelling at) = words_of line ≡ Err at
-IsFaultOf line NoMemory = Unit {0}
+-- the line's words
+abbrev pub Words : List ℕ → List Word → Type 0
+Words text words = IsOutcome Finds text (Ok words)
+
+-- the line's first fault from the left
+abbrev pub HasFault : List ℕ → WordFault → Type 0
+HasFault text fault = IsOutcome Finds text (Err fault)

@@ -2,13 +2,25 @@
 #![tactic(auto)]
 
 mod alphabet;
-mod cut;
+mod cutting;
+mod finding;
+mod laws;
 mod lines;
+mod listed;
+mod naming;
+mod quoting;
+mod running;
+mod span_cutting;
+mod span_finding;
+#[cfg(test)]
+mod tests;
 mod trim;
 mod word;
 
 pub use alphabet::is_blank;
-pub use cut::words;
+pub use cutting::words;
+pub use laws::{each_line_has_one_outcome, each_text_has_one_outcome};
 pub use lines::{Line, next_line};
+pub use span_cutting::spans;
 pub use trim::trimmed;
-pub use word::{Word, WordFault, WordKind};
+pub use word::{SpanFault, Word, WordFault, WordKind};

@@ -1,4 +1,4 @@
-use Rattle.std.proofs.Common.{◌≡◌, ◌∙◌, ◌-◌, ◌+◌, ◌∷◌, ℕ, suc, List, length, take, drop, ap, sym, arith, [], add-one}
+use Rattle.std.proofs.Common.{◌≡◌, ◌∙◌, ◌-◌, ◌+◌, ◌∷◌, ℕ, suc, List, length, take, drop, ap, sym, subst, arith, [], add-one}
 use Rattle.std.proofs.lemmas.Grind.{common_steps}
 use Rattle.jwords.specs.Lines.{lines_of}
 use Rattle.jwords.proofs.Ends.{first_line, one_line}

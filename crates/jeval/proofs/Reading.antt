@@ -1,0 +1,54 @@
+-- The test of a number and the reading of a run agree.
+use Rattle.std.proofs.Common.{◌≡◌, ℕ, ◌<◌, ℤ, pos, negsuc, true, false, List, [], ◌∷◌, Some, None, ap, length, arith, refl, sym, subst, inl, inr, FitsSigned}
+use Rattle.std.proofs.lemmas.Bool.{cases_Bool}
+use Rattle.std.proofs.lemmas.Bool.Decides.{nat_tests}
+use mir.Syntax.{w64}
+use Rattle.std.specs.List.{list_all}
+use Rattle.std.specs.Str.Parse.{AllDigits}
+use Rattle.jnumber.specs.Spelling.{Spells, digits_in, number_in}
+use Rattle.jnumber.specs.Reading.{IsReading}
+use Rattle.jnumber.specs.declared.reading.Read.TheVariants.{Number, Wide, Not}
+use Rattle.jeval.specs.Numbers.{fits, is_decimal, is_number, number_of}
+
+pub fits_from : (z : ℤ) → FitsSigned w64 z → fits z ≡ true
+fits_from (pos n) h = grind (arith, nat_tests)
+fits_from (negsuc n) h = grind (arith, nat_tests)
+
+pub fits_to : (z : ℤ) → fits z ≡ true → FitsSigned w64 z
+fits_to (pos n) h = grind (arith, nat_tests)
+fits_to (negsuc n) h = grind (arith, nat_tests)
+
+pub digits_from : (ds : List ℕ) → AllDigits 10 ds → list_all is_decimal ds ≡ true
+digits_from [] h = refl
+digits_from (d ∷ ds) h = grind (arith, nat_tests, digits_from ds h.1)
+
+pub digits_to : (ds : List ℕ) → list_all is_decimal ds ≡ true → AllDigits 10 ds
+digits_to [] h = tt
+digits_to (d ∷ ds) h = (grind (arith, nat_tests), digits_to ds (grind (arith, nat_tests)))
+
+pub is_number_from : (run : List ℕ) (number : ℤ) → Spells run number → is_number run ≡ true
+is_number_from run number h =
+    let all = digits_from (digits_in run) h.digits.1 in
+    let P : ℤ → Type 0 = λ z. fits z ≡ true in
+    let inside = subst P h.value (fits_from number h.in_range) in
+    let some : 0 < length (digits_in run) = h.digits.0 in
+    grind (arith, nat_tests)
+
+pub spells_from : (run : List ℕ) → is_number run ≡ true → Spells run (number_in run)
+spells_from run h = record {
+  digits = (grind (arith, nat_tests), digits_to (digits_in run) (grind (arith, nat_tests)));
+  value = refl;
+  in_range = fits_to (number_in run) (grind (arith, nat_tests));
+}
+
+pub not_number : (run : List ℕ) → IsReading run Not → is_number run ≡ false
+not_number run h = elim (cases_Bool (is_number run)) [ inl is ↦ absurd (h.1 (number_in run) (spells_from run is)) | inr not_so ↦ not_so ]
+
+pub wide_is_no_number : (run : List ℕ) → IsReading run Wide → is_number run ≡ false
+wide_is_no_number run h = let P : List ℕ → Type 0 = λ r. is_number r ≡ false in subst P (sym h) refl
+
+pub number_is : (run : List ℕ) (number : ℤ) → IsReading run (Number number) → Some number ≡ number_of run
+number_is run number h = rw (is_number_from run number h) (ap Some h.value)
+
+pub none_is : (run : List ℕ) → is_number run ≡ false → None ≡ number_of run
+none_is run h = rw h refl

@@ -1,0 +1,29 @@
+use Rattle.std.proofs.Common.{rules, arith, ◌≡◌, ◌<◌, ◌≤◌, ◌+◌, ◌-◌, ℕ, length, sym, ◌∙◌}
+use Rattle.std.proofs.lemmas.Result.{err_from_is_err_and}
+use Rattle.std.proofs.lemmas.Grind.{common_steps}
+use Rattle.jwords.specs.Cuts.{blank}
+use Rattle.jwords.specs.Spans.{FindsSpan}
+use Rattle.jwords.proofs.CutSteps.{cut_start, cut_word, cut_fault}
+use Rattle.jwords.proofs.span_cutting.spans.Goals as goal
+
+pub loop-at-init : goal.loop-at-init
+loop-at-init c = record { cut = cut_start FindsSpan c.args.text.now c.new-words.result.items c.new-words.ensures.items; within = omega arith }
+
+pub loop-at-preserved-then-is_blank : goal.loop-at-preserved-then-is_blank
+loop-at-preserved-then-is_blank c = record {
+  cut = blank c.loop-at.at c.loop-at.words.items c.loop-at.invariant.cut (omega arith) (sym c.is_blank.ensures ∙ c.if-is_blank.true);
+  within = omega arith;
+}
+
+pub returns-in_err-word-clause-fault : goal.returns-in_err-word-clause-fault
+returns-in_err-word-clause-fault c =
+    let p = err_from_is_err_and c.from_residual.result c.from_residual.ensures.1 in
+    rw (p.1, p.2) (λ differs. cut_fault FindsSpan c.args.text.now c.loop-at.at c.loop-at.words.items c.in_err-word.field-0.0 c.loop-at.invariant.cut (omega arith)
+    (sym c.is_blank.ensures ∙ c.if-is_blank.false) c.in_err-word.ensures.found)
+
+pub loop-at-preserved : goal.loop-at-preserved
+loop-at-preserved c = record {
+  cut = cut_word FindsSpan c.args.text.now c.loop-at.at c.loop-at.words.items c.push.new.self.items c.in_ok-word.word c.loop-at.invariant.cut (omega arith)
+      (sym c.is_blank.ensures ∙ c.if-is_blank.false) c.in_ok-word.ensures.found (grind (arith, common_steps));
+  within = grind (arith, common_steps);
+}

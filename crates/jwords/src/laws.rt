@@ -1,0 +1,13 @@
+//! What holds of cutting altogether. Each function does nothing: its contract is the law.
+
+ghost use Rattle.jwords.specs.Laws.{EachLineHasOneOutcome, EachTextHasOneOutcome};
+
+/// Each line has exactly one list of words or one fault.
+pub fn each_line_has_one_outcome()
+    ensures { EachLineHasOneOutcome }
+{}
+
+/// Each text has exactly one list of words by monadic `;:`, or one open quote.
+pub fn each_text_has_one_outcome()
+    ensures { EachTextHasOneOutcome }
+{}
