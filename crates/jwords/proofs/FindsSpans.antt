@@ -17,10 +17,12 @@ use Rattle.jwords.specs.Cuts.{word_of}
 use Rattle.jwords.specs.Words.{is_brace_pair}
 use Rattle.jwords.specs.Spans.{FindsTextSpan, FindsNameSpan, FindsRunSpan, FindsRunList, FindsByteSpan, FindsSpan}
 use Rattle.jwords.proofs.Outcomes.{FindsOne}
-use Rattle.jwords.proofs.Decisions.{run_told, one_list, list_some, list_size}
-use Rattle.jwords.proofs.QuotedTexts.{one_closing, quoted_told, quoted_size}
+use Rattle.jwords.proofs.RunLists.{one_list, list_size}
+use Rattle.jwords.proofs.Forming.{span_gives}
+use Rattle.jwords.specs.Formed.{find_span}
+use Rattle.jwords.proofs.QuotedTexts.{one_closing, quoted_size}
 use Rattle.jwords.proofs.FoundWords.{name_is_some}
-use Rattle.jwords.proofs.FindsWords.{match_one, match_some, match_from, Within, within_of, inflected_size, symbol_size, stands_within, brace_size}
+use Rattle.jwords.proofs.FindsWords.{match_one, match_from, Within, within_of, inflected_size, symbol_size, stands_within, brace_size}
 use Rattle.jwords.proofs.NumberLists.{prefix_some, number_start_is_byte, zero_is_no_number_byte}
 
 -- the rules behind those of quotes and letters, and behind that of quotes
@@ -65,31 +67,6 @@ spans_at_most_one at rest r s =
     (match_one (nat_eq (get_or rest (run_length rest) 0) colon) (λ r. r ≡ Ok (marked at rest)) (FindsRunList at rest) r s (λ p q. p ∙ sym q) (list_one at rest r s))
     (match_one (is_brace_pair rest) (λ r. r ≡ Ok (word_of Graphic at 2)) (λ r. r ≡ Ok (word_of Graphic at (symbol_length rest))) r s (λ p q. p ∙ sym q) (λ p q. p ∙ sym q))))
 
--- something is found
-text_some : (at : ℕ) (rest : List ℕ) → 0 < length rest → nat_eq (first rest) quote ≡ true → (r : Result Word SpanFault) × FindsTextSpan at rest r
-text_some at rest l e = elim (quoted_told rest l (eqb-true (first rest) quote e)) [
-  | inl q ↦ (Ok (word_of Text at q.0), (q.0, q.1, refl))
-  | inr never ↦ (Err (OpenQuote at), (never, refl))
-]
-
-list_found : (at : ℕ) (rest : List ℕ) → is_number_start (first rest) ≡ true → nat_eq (get_or rest (run_length rest) 0) colon ≡ false → (r : Result Word SpanFault) × FindsRunList at rest r
-list_found at rest s n =
-    let b : BeginsRun rest = record { starts = s; ends = eqb-false (get_or rest (run_length rest) 0) colon n } in
-    let l : (n : ℕ) × IsList BeginsRun rest n = list_some BeginsRun (λ bytes b. b) run_told (length rest) rest (omega arith) b in
-    (Ok (word_of Number at l.0), (l.0, l.1, refl))
-
-pub spans_some : (at : ℕ) (rest : List ℕ) → 0 < length rest → (r : Result Word SpanFault) × FindsSpan at rest r
-spans_some at rest l =
-    match_some (nat_eq (first rest) quote) (FindsTextSpan at rest) (FindsUnquoted at rest) (text_some at rest l)
-    (λ e. match_some (is_letter (first rest)) (FindsNameSpan at rest) (FindsUnlettered at rest)
-    (λ f. match_some (bytes_eq (take (inflected_length rest) rest) (codes "NB.")) (λ r. r ≡ Ok (word_of Comment at (length rest))) (λ r. r ≡ Ok (named at rest))
-    (λ g. (Ok (word_of Comment at (length rest)), refl)) (λ g. (Ok (named at rest), refl)))
-    (λ f. match_some (is_number_start (first rest)) (FindsRunSpan at rest) (FindsByteSpan at rest)
-    (λ s. match_some (nat_eq (get_or rest (run_length rest) 0) colon) (λ r. r ≡ Ok (marked at rest)) (FindsRunList at rest)
-    (λ g. (Ok (marked at rest), refl)) (list_found at rest s))
-    (λ s. match_some (is_brace_pair rest) (λ r. r ≡ Ok (word_of Graphic at 2)) (λ r. r ≡ Ok (word_of Graphic at (symbol_length rest)))
-    (λ g. (Ok (word_of Graphic at 2), refl)) (λ g. (Ok (word_of Graphic at (symbol_length rest)), refl)))))
-
 -- how far a word reaches
 marked_size : (rest : List ℕ) → run_length rest + prefix_len is_inflection (drop (run_length rest) rest) ≤ length rest
 marked_size rest =
@@ -124,5 +101,5 @@ spans_extent at rest w l =
     (λ e. match_from (is_letter (first rest)) (FindsNameSpan at rest (Ok w)) (FindsUnlettered at rest (Ok w)) (Within at rest w)
     (λ f. name_extent at rest w l f) (λ f. unlettered_extent at rest w l))
 
-pub spans_one : FindsOne SpanFault FindsSpan
-spans_one = record { one = spans_at_most_one; some = spans_some; extent = spans_extent }
+pub spans_one : FindsOne SpanFault FindsSpan find_span
+spans_one = record { one = spans_at_most_one; gives = span_gives; extent = spans_extent }

@@ -19,18 +19,16 @@ use Rattle.jwords.specs.Runs.{name_length, inflected_length, run_length, symbol_
 use Rattle.jwords.specs.Cuts.{word_of}
 use Rattle.jwords.specs.Words.{Judged, FindsText, FindsBareName, FindsInflected, FindsName, FindsNumberList, FindsNumber, FindsSymbol, Finds, is_brace_pair, starts_doubled}
 use Rattle.jwords.proofs.Outcomes.{FindsOne}
-use Rattle.jwords.proofs.Decisions.{Told, name_told, inflected_told, flag_told, no_number_told, number_told, list_begins, one_list, list_some, list_size}
-use Rattle.jwords.proofs.QuotedTexts.{one_closing, quoted_told, quoted_size}
+use Rattle.jwords.proofs.RunLists.{list_begins, one_list, list_size}
+use Rattle.jwords.proofs.Forming.{word_gives}
+use Rattle.jwords.specs.Formed.{find_word}
+use Rattle.jwords.proofs.QuotedTexts.{one_closing, quoted_size}
 use Rattle.jwords.proofs.FoundWords.{name_is_some}
 
 -- what is found by a choice
 pub match_one : {R : Type 0} (b : Bool) (P Q : R → Type 0) (r s : R) → (P r → P s → r ≡ s) → (Q r → Q s → r ≡ s) → MatchBool b (P r) (Q r) → MatchBool b (P s) (Q s) → r ≡ s
 match_one true P Q r s p q x y = p x y
 match_one false P Q r s p q x y = q x y
-
-pub match_some : {R : Type 0} (b : Bool) (P Q : R → Type 0) → (b ≡ true → (r : R) × P r) → (b ≡ false → (r : R) × Q r) → (r : R) × MatchBool b (P r) (Q r)
-match_some true P Q p q = p refl
-match_some false P Q p q = q refl
 
 pub match_from : (b : Bool) (P Q R : Type 0) → (b ≡ true → P → R) → (b ≡ false → Q → R) → MatchBool b P Q → R
 match_from true P Q R p q x = p refl x
@@ -41,10 +39,6 @@ judged_one (Ok x) (Ok y) holds w f p q = ap Ok (p.1 ∙ sym q.1)
 judged_one (Ok x) (Err y) holds w f p q = absurd (q.0 p.0)
 judged_one (Err x) (Ok y) holds w f p q = absurd (p.0 q.0)
 judged_one (Err x) (Err y) holds w f p q = ap Err (p.1 ∙ sym q.1)
-
-judged_some : (holds : Type 0) (w : Word) (f : WordFault) → Told holds → (r : Result Word WordFault) × Judged r holds w f
-judged_some holds w f (inl h) = (Ok w, (h, refl))
-judged_some holds w f (inr never) = (Err f, (never, refl))
 
 -- the word that is found ends where it is said to
 abbrev pub Within : ℕ → List ℕ → Word → Type 0
@@ -94,48 +88,6 @@ pub words_one : (at : ℕ) (rest : List ℕ) (r s : Result Word WordFault) → F
 words_one at rest r s =
     match_one (nat_eq (first rest) quote) (FindsText at rest) (FindsUnquoted at rest) r s (text_one at rest r s)
     (match_one (is_letter (first rest)) (FindsName at rest) (FindsUnlettered at rest) r s (name_one at rest r s) (unlettered_one at rest r s))
-
--- something is found
-text_some : (at : ℕ) (rest : List ℕ) → 0 < length rest → nat_eq (first rest) quote ≡ true → (r : Result Word WordFault) × FindsText at rest r
-text_some at rest l e = elim (quoted_told rest l (eqb-true (first rest) quote e)) [
-  | inl q ↦ (Ok (word_of Text at q.0), (q.0, q.1, refl))
-  | inr never ↦ (Err (OpenQuote at), (never, refl))
-]
-
-list_found : (at : ℕ) (rest : List ℕ) → is_number_start (first rest) ≡ true → nat_eq (get_or rest (run_length rest) 0) colon ≡ false → (r : Result Word WordFault) × FindsNumberList at rest r
-list_found at rest s n = elim (no_number_told rest) [
-  | inl none ↦ (Err (IllFormed at), (none, refl))
-  | inr some ↦
-      let b : BeginsNumber rest = record { run = record { starts = s; ends = eqb-false (get_or rest (run_length rest) 0) colon n }; number = some } in
-      let l : (n : ℕ) × IsList BeginsNumber rest n = list_some BeginsNumber (λ bytes b. b.run) number_told (length rest) rest (omega arith) b in
-      (Ok (word_of Number at l.0), (l.0, l.1, refl))
-]
-
-name_some : (at : ℕ) (rest : List ℕ) → (r : Result Word WordFault) × FindsName at rest r
-name_some at rest =
-    match_some (nat_eq (inflected_length rest) (name_length rest)) (FindsBareName at rest) (FindsInflected at rest)
-    (λ e. judged_some (IsName (take (inflected_length rest) rest)) (word_of Name at (inflected_length rest)) (Spelling at) (name_told (take (inflected_length rest) rest)))
-    (λ e. match_some (bytes_eq (take (inflected_length rest) rest) (codes "NB.")) (λ r. r ≡ Ok (word_of Comment at (length rest)))
-    (λ r. Judged r (IsInflectedWord (take (inflected_length rest) rest)) (word_of Inflected at (inflected_length rest)) (Spelling at))
-    (λ f. (Ok (word_of Comment at (length rest)), refl))
-    (λ f. judged_some (IsInflectedWord (take (inflected_length rest) rest)) (word_of Inflected at (inflected_length rest)) (Spelling at) (inflected_told (take (inflected_length rest) rest))))
-
-unlettered_some : (at : ℕ) (rest : List ℕ) → (r : Result Word WordFault) × FindsUnlettered at rest r
-unlettered_some at rest =
-    match_some (is_number_start (first rest)) (FindsNumber at rest) (FindsSymbol at rest)
-    (λ s. match_some (nat_eq (get_or rest (run_length rest) 0) colon)
-    (λ r. Judged r (is_constant (take (run_length rest + 1) rest) ≡ true) (word_of Inflected at (run_length rest + 1)) (Spelling at)) (FindsNumberList at rest)
-    (λ e. judged_some (is_constant (take (run_length rest + 1) rest) ≡ true) (word_of Inflected at (run_length rest + 1)) (Spelling at) (flag_told (is_constant (take (run_length rest + 1) rest))))
-    (list_found at rest s))
-    (λ s. match_some (is_brace_pair rest) (λ r. r ≡ Ok (word_of Graphic at 2))
-    (λ r. Judged r (is_symbol (take (symbol_length rest) rest) ≡ true) (word_of Graphic at (symbol_length rest)) (Spelling at))
-    (λ e. (Ok (word_of Graphic at 2), refl))
-    (λ e. judged_some (is_symbol (take (symbol_length rest) rest) ≡ true) (word_of Graphic at (symbol_length rest)) (Spelling at) (flag_told (is_symbol (take (symbol_length rest) rest)))))
-
-pub words_some : (at : ℕ) (rest : List ℕ) → 0 < length rest → (r : Result Word WordFault) × Finds at rest r
-words_some at rest l =
-    match_some (nat_eq (first rest) quote) (FindsText at rest) (FindsUnquoted at rest) (text_some at rest l)
-    (λ e. match_some (is_letter (first rest)) (FindsName at rest) (FindsUnlettered at rest) (λ f. name_some at rest) (λ f. unlettered_some at rest))
 
 -- how far a word reaches
 pub inflected_size : (rest : List ℕ) → inflected_length rest ≤ length rest
@@ -204,5 +156,5 @@ words_extent at rest w l =
     (λ e. match_from (is_letter (first rest)) (FindsName at rest (Ok w)) (FindsUnlettered at rest (Ok w)) (Within at rest w)
     (λ f. name_extent at rest w l f) (λ f. unlettered_extent at rest w l))
 
-pub finds_one : FindsOne WordFault Finds
-finds_one = record { one = words_one; some = words_some; extent = words_extent }
+pub finds_one : FindsOne WordFault Finds find_word
+finds_one = record { one = words_one; gives = word_gives; extent = words_extent }

@@ -5,8 +5,11 @@ pub mod NumberLists
 pub mod FoundWords
 pub mod CutSteps
 pub mod Outcomes
-pub mod Decisions
+pub mod RunLists
 pub mod FindsWords
 pub mod FindsSpans
 pub mod Blanks
 pub mod Ends
+pub mod Tests
+pub mod Forming
+pub mod FormedWords

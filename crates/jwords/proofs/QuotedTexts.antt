@@ -92,38 +92,17 @@ scanned_is_open false bytes i l e s size q =
     let same : bytes ≡ q.inside ++ (quote ∷ q.after) = cc (q.parts) in
     inside_is_open q.inside q.after bytes same q.between q.closed all
 
--- a text is closed, or it isn't
-abbrev pub Decided : List ℕ → Type 0
-Decided bytes = ((size : ℕ) × IsQuoted (quote ∷ bytes) size) ⊎ ((size : ℕ) → IsQuoted (quote ∷ bytes) size → ⊥)
-
-closed_at_plain : (c : ℕ) (cs seen : List ℕ) (closing : Bool) → c ≢ quote → Scanned closing seen → (IsInside (seen ++ (c ∷ [])) → Decided (seen ++ (c ∷ cs))) → Decided (seen ++ (c ∷ cs))
-closed_at_plain c cs seen true differs s go = inl (length seen + 1, scanned_closes true seen (c ∷ cs) (seen ++ (c ∷ cs)) refl refl differs s)
-closed_at_plain c cs seen false differs s go = go (scanned_plain false seen c refl differs s)
-
--- whether a text is closed can be told
-pub closed_or_open : (rest seen : List ℕ) (closing : Bool) → Scanned closing seen → Decided (seen ++ rest)
-closed_or_open [] seen true s = inl (length seen + 1, scanned_closes true seen [] (seen ++ []) refl refl (λ e. absurd (omega (arith, e))) s)
-closed_or_open [] seen false s = inr (λ size q.
-    let same : seen ++ [] ≡ q.inside ++ (quote ∷ q.after) = cc (q.parts) in
-    inside_is_open q.inside q.after (seen ++ []) same q.between q.closed (subst IsInside (sym (append-nil seen)) s))
-closed_or_open (c ∷ cs) seen closing s = elim (cases_eq c quote) [
-  | inl e ↦ subst Decided (append_assoc seen (c ∷ []) cs) (closed_or_open cs (seen ++ (c ∷ [])) (not closing) (scanned_quote closing seen c e s))
-  | inr differs ↦ closed_at_plain c cs seen closing differs s (λ t. subst Decided (append_assoc seen (c ∷ []) cs) (closed_or_open cs (seen ++ (c ∷ [])) false t))
-]
-
 -- bytes that begin with a quote
 pub from_second : (bytes : List ℕ) → 0 < length bytes → get_or bytes 0 0 ≡ quote → bytes ≡ quote ∷ take (length bytes - 1) (drop 1 bytes)
 from_second [] l e = absurd (omega arith)
 from_second (c ∷ cs) l e = ap (λ b. b ∷ cs) e ∙ ap (λ xs. quote ∷ xs) (sym (take_rest (c ∷ cs) 1))
-
--- whether bytes that begin with a quote are closed
-pub quoted_told : (bytes : List ℕ) → 0 < length bytes → first bytes ≡ quote → ((size : ℕ) × IsQuoted bytes size) ⊎ ((size : ℕ) → IsQuoted bytes size → ⊥)
-quoted_told [] l e = absurd (omega arith)
-quoted_told (c ∷ cs) l e =
-    subst (λ (b : ℕ). ((size : ℕ) × IsQuoted (b ∷ cs) size) ⊎ ((size : ℕ) → IsQuoted (b ∷ cs) size → ⊥)) (sym e) (closed_or_open cs [] false nothing)
 
 pub quoted_size : (bytes : List ℕ) (n : ℕ) → IsQuoted bytes n → (0 < n) × (n ≤ length bytes)
 quoted_size bytes n q =
     let l = length-append q.inside (quote ∷ q.after) in
     let e : length bytes ≡ suc (length (q.inside ++ (quote ∷ q.after))) = ap length q.parts in
     ((omega (arith, q.whole)), (omega (arith, q.whole, l, e)))
+
+pub from_quote : (bytes : List ℕ) → 0 < length bytes → first bytes ≡ quote → bytes ≡ quote ∷ drop 1 bytes
+from_quote [] l e = absurd (omega arith)
+from_quote (c ∷ cs) l e = ap (λ b. b ∷ cs) e

@@ -34,9 +34,3 @@ pub record IsFault {F : Type 0} (finds : ℕ → List ℕ → Result Word F → 
 abbrev pub IsOutcome : {F : Type 0} → (ℕ → List ℕ → Result Word F → Type 0) → List ℕ → Result (List Word) F → Type 0
 IsOutcome finds text (Ok words) = IsCut finds text (length text) words
 IsOutcome finds text (Err fault) = IsFault finds text fault
-
--- each text has words or a fault, and just one of them
-abbrev pub HasOneOutcome : {F : Type 0} → (ℕ → List ℕ → Result Word F → Type 0) → List ℕ → Type 0
-HasOneOutcome {F} finds text =
-    (outcome : Result (List Word) F) × IsOutcome finds text outcome
-    × ((other : Result (List Word) F) → IsOutcome finds text other → other ≡ outcome)

@@ -1,13 +1,21 @@
--- What holds of word formation altogether.
-use Rattle.std.specs.Prelude.{ℕ, List}
-use Rattle.jwords.specs.Cuts.{HasOneOutcome}
+-- What holds of word formation altogether: one outcome for each text, which the functions give.
+use Rattle.std.specs.Prelude.{◌≡◌, ℕ, List, Result}
+use Rattle.jwords.specs.declared.word.Word.{Word}
+use Rattle.jwords.specs.declared.word.WordFault.{WordFault}
+use Rattle.jwords.specs.declared.word.SpanFault.{SpanFault}
+use Rattle.jwords.specs.Cuts.{IsOutcome}
 use Rattle.jwords.specs.Words.{Finds}
 use Rattle.jwords.specs.Spans.{FindsSpan}
+use Rattle.jwords.specs.Formed.{words_of, spans_of}
 
--- each line has exactly one list of words or one fault
+-- each line has words or a fault by the rules, and no others than the function gives
 abbrev pub EachLineHasOneOutcome : Type 0
-EachLineHasOneOutcome = (line : List ℕ) → HasOneOutcome Finds line
+EachLineHasOneOutcome =
+    (line : List ℕ) → IsOutcome Finds line (words_of line)
+    × ((other : Result (List Word) WordFault) → IsOutcome Finds line other → other ≡ words_of line)
 
 -- and so has each text as monadic `;:` cuts it
 abbrev pub EachTextHasOneOutcome : Type 0
-EachTextHasOneOutcome = (text : List ℕ) → HasOneOutcome FindsSpan text
+EachTextHasOneOutcome =
+    (text : List ℕ) → IsOutcome FindsSpan text (spans_of text)
+    × ((other : Result (List Word) SpanFault) → IsOutcome FindsSpan text other → other ≡ spans_of text)

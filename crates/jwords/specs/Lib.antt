@@ -9,4 +9,6 @@ pub mod Runs
 pub mod Cuts
 pub mod Words
 pub mod Spans
+pub mod Numbers
+pub mod Formed
 pub mod Laws

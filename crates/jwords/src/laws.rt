@@ -2,12 +2,12 @@
 
 ghost use Rattle.jwords.specs.Laws.{EachLineHasOneOutcome, EachTextHasOneOutcome};
 
-/// Each line has exactly one list of words or one fault.
+/// Each line has exactly one list of words or one fault, and `words_of` gives it.
 pub fn each_line_has_one_outcome()
     ensures { EachLineHasOneOutcome }
 {}
 
-/// Each text has exactly one list of words by monadic `;:`, or one open quote.
+/// Each text has exactly one list of words by monadic `;:`, or one open quote, and `spans_of` gives it.
 pub fn each_text_has_one_outcome()
     ensures { EachTextHasOneOutcome }
 {}

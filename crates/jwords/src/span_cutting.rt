@@ -1,6 +1,7 @@
 //! A text cut by monadic `;:`.
 
-ghost use Rattle.std.specs.Prelude.{◌≢◌, ◌≤◌, ◌^◌, length, IfOk, IfErr};
+ghost use Rattle.std.specs.Prelude.{◌≡◌, ◌≢◌, ◌≤◌, ◌^◌, length, Ok, Err, IfOk, IfErr};
+ghost use Rattle.jwords.specs.Formed.{spans_of};
 ghost use Rattle.jwords.specs.Spans.{Spans, HasOpenQuote};
 
 use crate::alphabet::is_blank;
@@ -14,6 +15,10 @@ pub fn spans(alloc: Global, text: &[u8]) -> Result<Vec<Word>, SpanFault>
     requires { length text.now ≤ 2 ^ 27 }
     ensures words { IfOk result (λ words. Spans text.now words.items) }
     ensures fault { IfErr result (λ fault. fault ≢ SpanFault.NoMemory → HasOpenQuote text.now fault) }
+
+    // The same by the function of the definitions.
+    ensures formed { IfOk result (λ words. spans_of text.now ≡ Ok words.items) }
+    ensures formed_fault { IfErr result (λ fault. fault ≢ SpanFault.NoMemory → spans_of text.now ≡ Err fault) }
 {
     let mut words = Vec::new(alloc);
     let mut at = 0;

@@ -1,8 +1,9 @@
-use Rattle.std.proofs.Common.{rules, arith, ◌≡◌, ◌<◌, ◌≤◌, ◌+◌, ◌-◌, ℕ, length, sym, ◌∙◌}
+use Rattle.std.proofs.Common.{rules, arith, ◌≡◌, ◌<◌, ◌≤◌, ◌+◌, ◌-◌, ℕ, length, sym, ◌∙◌, subst, Ok, Err}
 use Rattle.std.proofs.lemmas.Result.{err_from_is_err_and}
 use Rattle.std.proofs.lemmas.Grind.{common_steps}
-use Rattle.jwords.specs.Cuts.{blank}
+use Rattle.jwords.specs.Cuts.{IsCut, blank}
 use Rattle.jwords.specs.Spans.{FindsSpan}
+use Rattle.jwords.proofs.FormedWords.{spans_are}
 use Rattle.jwords.proofs.CutSteps.{cut_start, cut_word, cut_fault}
 use Rattle.jwords.proofs.span_cutting.spans.Goals as goal
 
@@ -27,3 +28,15 @@ loop-at-preserved c = record {
       (sym c.is_blank.ensures ∙ c.if-is_blank.false) c.in_ok-word.ensures.found (grind (arith, common_steps));
   within = grind (arith, common_steps);
 }
+
+pub returns-in_err-word-clause-formed_fault : goal.returns-in_err-word-clause-formed_fault
+returns-in_err-word-clause-formed_fault c =
+    let p = err_from_is_err_and c.from_residual.result c.from_residual.ensures.1 in
+    rw (p.1, p.2) (λ differs. spans_are c.args.text.now (Err c.in_err-word.field-0.0)
+    (cut_fault FindsSpan c.args.text.now c.loop-at.at c.loop-at.words.items c.in_err-word.field-0.0 c.loop-at.invariant.cut (omega arith)
+    (sym c.is_blank.ensures ∙ c.if-is_blank.false) c.in_err-word.ensures.found))
+
+pub returns-clause-formed : goal.returns-clause-formed
+returns-clause-formed c =
+    let end : c.loop-at.at ≡ length c.args.text.now = omega arith in
+    spans_are c.args.text.now (Ok c.loop-at.words.items) (subst (λ (n : ℕ). IsCut FindsSpan c.args.text.now n c.loop-at.words.items) end c.loop-at.invariant.cut)
