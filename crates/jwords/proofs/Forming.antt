@@ -22,7 +22,7 @@ use Rattle.jwords.specs.Words.{Judged, FindsText, FindsBareName, FindsInflected,
 use Rattle.jwords.specs.Spans.{FindsTextSpan, FindsNameSpan, FindsRunSpan, FindsRunList, FindsByteSpan, FindsSpan}
 use Rattle.jwords.specs.Formed.{text_found, judged, find_name, find_number, find_symbol, find_word, find_name_span, find_run_span, find_byte_span, find_span, closing_size, is_named_word, is_listed_inflected, is_number_run, begins_number, begins_run, list_length}
 use Rattle.jwords.proofs.QuotedTexts.{from_quote}
-use Rattle.jwords.proofs.Tests.{Closes, closing_told, name_decides, inflected_decides, number_decides, no_number_from, begins_decides, run_decides, list_is}
+use Rattle.jwords.proofs.Deciders.{Closes, closing_told, name_decides, inflected_decides, number_decides, no_number_from, begins_decides, run_decides, list_is}
 
 -- a choice is met by what it chooses
 choice_gives : {R : Type 0} (b : Bool) (P Q : R → Type 0) (x y : R) → (b ≡ true → P x) → (b ≡ false → Q y) → MatchBool b (P (cond b x y)) (Q (cond b x y))

@@ -10,6 +10,6 @@ pub mod FindsWords
 pub mod FindsSpans
 pub mod Blanks
 pub mod Ends
-pub mod Tests
+pub mod Deciders
 pub mod Forming
 pub mod FormedWords
