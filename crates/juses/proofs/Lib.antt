@@ -1,0 +1,5 @@
+pub mod Tables
+pub mod Desks
+pub mod Traces
+pub mod KeyFacts
+pub mod Runs

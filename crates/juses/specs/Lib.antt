@@ -1,0 +1,9 @@
+pub mod Program
+pub mod Entries
+pub mod Keys
+pub mod Desk
+pub mod Histories
+pub mod Standing
+pub mod Keeping
+pub mod OldestFirst
+pub mod Leading
