@@ -1,9 +1,6 @@
-use crate::{
-    Cause, Desk, Halt, Reply, Solo, Use, Uses, desk_law, determinism_law, history_law, next_law,
-    one_thread_law, prefix_law,
-};
-use jdata::{Bytes, Name, Path, Primitive, Tree};
-use jterm::{Locative, Term};
+use crate::{Cause, Desk, Halt, Reply, Solo, Use, Uses};
+use jdata::{Bytes, Name, Path, Tree};
+use jterm::Term;
 use std::alloc::Global;
 use std::test::Fail;
 
@@ -78,116 +75,69 @@ fn halt(halt: Halt) -> Fail {
     }
 }
 
-fn ask<U: Uses>(uses: &mut U, asked: Use) -> Result<Reply, Fail> {
-    match uses.call(Path::main(), asked) {
-        Ok(reply) => Ok(reply),
+fn write(desk: &mut Desk, alloc: Global, place: &str, of: &str, value: i64) -> Result<bool, Fail> {
+    let asked = writing(alloc, place, of, number(alloc, value)?)?;
+    match desk.answer(Path::main(), 0, asked) {
+        Ok(reply) => Ok(is_done(reply)),
+        Err(why) => Err(halt(why)),
+    }
+}
+
+fn read(desk: &mut Desk, alloc: Global, from: &str, of: &str) -> Result<Meaning, Fail> {
+    match desk.answer(Path::main(), 0, reading(alloc, from, of)?) {
+        Ok(reply) => Ok(found(reply)),
         Err(why) => Err(halt(why)),
     }
 }
 
 #[test]
 fn names_are_sought_in_their_locale_and_then_in_z(rt: HostRuntime) -> Result<(), Fail> {
-    let alloc = rt.alloc();
-    let mut desk = Desk::new(alloc, 0)?;
-    let rows = [
-        ("base", "a", Meaning::Nothing),
-        ("base", "b", Meaning::Number(2)),
-        ("base", "c", Meaning::Number(30)),
-        ("base", "both", Meaning::Number(5)),
-        ("z", "both", Meaning::Number(6)),
-        ("z", "b", Meaning::Nothing),
-        ("other", "b", Meaning::Number(7)),
-        ("other", "c", Meaning::Number(30)),
-        ("nowhere", "c", Meaning::Number(30)),
-        ("nowhere", "b", Meaning::Nothing),
-        ("base", "bb", Meaning::Nothing),
-    ];
-    let writes = [
+    let mut desk = Desk::new(rt.alloc(), 0)?;
+    for (place, of, value) in [
         ("base", "b", 1),
         ("z", "c", 30),
         ("base", "b", 2),
-        ("z", "both", 6),
-        ("base", "both", 5),
-        ("other", "b", 7),
-    ];
-    for (place, of, value) in writes {
-        let asked = writing(alloc, place, of, number(alloc, value)?)?;
-        let reply = desk.answer(Path::main(), 0, asked).map_err(halt)?;
-        assert!(rt; is_done(reply));
+        ("z", "b", 6),
+    ] {
+        assert!(rt; write(&mut desk, rt.alloc(), place, of, value)?);
     }
-    for (from, of, wanted) in rows {
-        let asked = reading(alloc, from, of)?;
-        let reply = desk.answer(Path::main(), 0, asked).map_err(halt)?;
-        assert_eq!(rt; found(reply), wanted);
+    for (from, of, wanted) in [
+        ("base", "a", Meaning::Nothing),
+        ("base", "b", Meaning::Number(2)),
+        ("z", "b", Meaning::Number(6)),
+        ("base", "c", Meaning::Number(30)),
+        ("nowhere", "b", Meaning::Number(6)),
+        ("base", "bb", Meaning::Nothing),
+    ] {
+        assert_eq!(rt; read(&mut desk, rt.alloc(), from, of)?, wanted);
     }
     Ok(())
 }
 
-#[test]
-fn verbs_and_references_are_values(rt: HostRuntime) -> Result<(), Fail> {
-    let alloc = rt.alloc();
-    let mut solo = Solo::new(alloc, 0)?;
-    let to = Locative {
-        name: name(alloc, "minus")?,
-        place: None,
-    };
-    let asked = writing(alloc, "base", "minus", Term::Verb(Primitive::Minus))?;
-    assert!(rt; is_done(ask(&mut solo, asked)?));
-    let asked = writing(alloc, "base", "s", Term::Name(to))?;
-    assert!(rt; is_done(ask(&mut solo, asked)?));
-    let reply = ask(&mut solo, reading(alloc, "base", "minus")?)?;
-    assert_eq!(rt; found(reply), Meaning::Verb);
-    let reply = ask(&mut solo, reading(alloc, "base", "s")?)?;
-    assert_eq!(rt; found(reply), Meaning::Reference);
-    Ok(())
+fn print(solo: &mut Solo, alloc: Global, text: &str) -> Result<bool, Fail> {
+    match solo.call(Path::main(), printing(alloc, text)?) {
+        Ok(reply) => Ok(is_done(reply)),
+        Err(why) => Err(halt(why)),
+    }
 }
 
 #[test]
 fn prints_are_handed_out_once_and_in_order(rt: HostRuntime) -> Result<(), Fail> {
-    let alloc = rt.alloc();
-    let mut solo = Solo::new(alloc, 0)?;
-    assert_eq!(rt; solo.take_prints().items(), b"".as_slice());
-    assert!(rt; is_done(ask(&mut solo, printing(alloc, "one ")?)?));
-    assert!(rt; is_done(ask(&mut solo, printing(alloc, "two")?)?));
+    let mut solo = Solo::new(rt.alloc(), 0)?;
+    assert!(rt; print(&mut solo, rt.alloc(), "one ")?);
+    assert!(rt; print(&mut solo, rt.alloc(), "two")?);
     assert_eq!(rt; solo.take_prints().items(), b"one two".as_slice());
     assert_eq!(rt; solo.take_prints().items(), b"".as_slice());
-    assert!(rt; is_done(ask(&mut solo, printing(alloc, "three")?)?));
-    solo.close(Cause::WriteFault);
-    assert_eq!(rt; solo.take_prints().items(), b"three".as_slice());
     Ok(())
 }
 
 #[test]
 fn a_closed_desk_answers_its_first_cause(rt: HostRuntime) -> Result<(), Fail> {
-    let alloc = rt.alloc();
-    for (first, second) in [
-        (Cause::NoMemory, Cause::WriteFault),
-        (Cause::WriteFault, Cause::NoMemory),
-    ] {
-        let mut solo = Solo::new(alloc, 0)?;
-        assert_eq!(rt; solo.desk().closed(), None);
-        solo.close(first);
-        solo.close(second);
-        assert_eq!(rt; solo.desk().closed(), Some(first));
-        let all = [
-            reading(alloc, "base", "a")?,
-            writing(alloc, "base", "a", number(alloc, 1)?)?,
-            printing(alloc, "text")?,
-        ];
-        for asked in all {
-            let answer = solo.call(Path::main(), asked);
-            assert_eq!(rt; halted(answer), Some(Halt::Closed(first)));
-        }
-    }
+    let mut solo = Solo::new(rt.alloc(), 0)?;
+    solo.close(Cause::NoMemory);
+    solo.close(Cause::WriteFault);
+    assert_eq!(rt; solo.desk().closed(), Some(Cause::NoMemory));
+    let answer = solo.call(Path::main(), reading(rt.alloc(), "base", "a")?);
+    assert_eq!(rt; halted(answer), Some(Halt::Closed(Cause::NoMemory)));
     Ok(())
-}
-
-#[test]
-fn laws_can_be_called() {
-    determinism_law::<u8>();
-    next_law::<u8>();
-    desk_law();
-    history_law::<u8>();
-    one_thread_law::<u8>();
-    prefix_law::<u8>();
 }
