@@ -1,0 +1,4 @@
+pub mod Agreement
+pub mod Atoms
+pub mod Dyads
+pub mod Table

@@ -1,0 +1,16 @@
+//! The scalar dyads on arrays.
+#![tactic(auto)]
+
+mod agreement;
+mod buffers;
+mod comparison;
+mod kinds;
+mod numbers;
+mod place;
+mod scalar;
+mod whole;
+
+pub use scalar::scalar2;
+
+#[cfg(test)]
+mod tests;

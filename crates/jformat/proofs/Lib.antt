@@ -1,0 +1,10 @@
+pub mod Products
+pub mod Changes
+pub mod Ranges
+pub mod Grid
+pub mod Lines
+pub mod LaidOut
+pub mod Texts
+pub mod Sizes
+pub mod Limits
+pub mod Formatted

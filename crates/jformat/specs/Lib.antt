@@ -1,0 +1,5 @@
+pub mod Answers
+pub mod Pieces
+pub mod Rows
+pub mod Format
+pub mod Single

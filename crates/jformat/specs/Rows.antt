@@ -1,0 +1,89 @@
+-- The display of arrays without boxes (J Dictionary and NuVoc, "Default Format"): a list of rows of characters.
+use Rattle.std.specs.Prelude.{ℕ, ◌+◌, ◌-◌, ◌*◌, ◌/◌, ◌%◌, ◌==◌, not, if◌then◌else◌, List, [], ◌∷◌, ◌++◌, length, map, take, drop, replicate, slice_index_or, count_by}
+use Rattle.std.specs.List.{range_with_len, flat_map, join_with_byte}
+use Rattle.jnumber.specs.Spelling.{written}
+use Rattle.jdata.specs.Noun.{shape, kind, atoms, product, greatest}
+use Rattle.jdata.specs.declared.noun.Noun.{Noun}
+use Rattle.jdata.specs.declared.noun.Kind.{Kind}
+use Rattle.jdata.specs.declared.noun.Kind.TheVariants as sort
+use Rattle.jdata.specs.declared.noun.Atom.{Atom, Atom-F, fold-Atom}
+use Rattle.jdata.specs.declared.noun.Atom.TheOpen as one
+
+abbrev pub blank : ℕ
+blank = 32
+
+abbrev pub line_end : ℕ
+line_end = 10
+
+-- the axes but the last, along which the rows stand; an atom and a list are one row
+abbrev pub row_axes : List ℕ → List ℕ
+row_axes axes = take (length axes - 1) axes
+
+-- the last axis, and 1 where there is none
+abbrev pub last_axis : List ℕ → ℕ
+last_axis axes = slice_index_or axes (length axes - 1) 1
+
+-- how an atom is written: an integer by its digits, a character as it is
+abbrev pub spelling_step : Atom-F (List ℕ) (List ℕ) → List ℕ
+spelling_step (one.Int n) = written n
+spelling_step (one.Char c) = c ∷ []
+spelling_step (one.Box inner) = []
+spelling_step (one.Pyx p) = []
+
+abbrev pub spelling_of : Atom → List ℕ
+spelling_of = fold-Atom (List ℕ) (List ℕ) spelling_step (λ v. [])
+
+-- the text in row r and column j of rows of so many columns, where the rows of all matrices are counted on
+abbrev pub text_at : List (List ℕ) → ℕ → ℕ → ℕ → List ℕ
+text_at texts columns r j = slice_index_or texts (r * columns + j) []
+
+-- column j is as wide as its widest text, in whichever of the rows it stands
+abbrev pub width_of : List (List ℕ) → ℕ → ℕ → ℕ → ℕ
+width_of texts rows columns j = greatest (map (λ r. length (text_at texts columns r j)) (range_with_len 0 rows))
+
+-- a text at the right of its column
+abbrev pub field : ℕ → List ℕ → List ℕ
+field width text = replicate (width - length text) blank ++ text
+
+-- row r of integers: a field for each column, and one blank between two
+abbrev pub integer_row : List (List ℕ) → ℕ → ℕ → ℕ → List ℕ
+integer_row texts rows columns r =
+    join_with_byte blank (map (λ j. field (width_of texts rows columns j) (text_at texts columns r j)) (range_with_len 0 columns))
+
+-- row r of characters: one after another
+abbrev pub character_row : List (List ℕ) → ℕ → ℕ → List ℕ
+character_row texts columns r = flat_map (text_at texts columns r) (range_with_len 0 columns)
+
+-- the number along axis i at which plane p stands, where the planes stand in ravel order along the axes
+abbrev pub number_along : List ℕ → ℕ → ℕ → ℕ
+number_along axes i p = (p / product (drop (i + 1) axes)) % slice_index_or axes i 1
+
+-- blank rows before plane p: none before the first; else one, and one for each axis before the last whose number is another than at the plane before
+abbrev pub blanks_before_plane : List ℕ → ℕ → ℕ
+blanks_before_plane axes p =
+    if p == 0 then 0 else 1 + count_by (λ i. not (number_along axes i (p - 1) == number_along axes i p)) (range_with_len 0 (length axes - 1))
+
+-- blank rows before row r of rows along these axes: a plane begins where the number along the last of them is 0
+abbrev pub blanks_before_row : List ℕ → ℕ → ℕ
+blanks_before_row axes r =
+    if r % last_axis axes == 0 then blanks_before_plane (row_axes axes) (r / last_axis axes) else 0
+
+-- the rows in order, each behind the blank rows before it
+abbrev pub spaced : List ℕ → (ℕ → List ℕ) → List (List ℕ)
+spaced axes row = flat_map (λ r. replicate (blanks_before_row axes r) [] ++ row r ∷ []) (range_with_len 0 (product axes))
+
+-- the rows of an array of this kind and shape, of whose atoms these are the texts
+abbrev pub rows_by : Kind → List ℕ → List (List ℕ) → List (List ℕ)
+rows_by sort.Int axes texts = spaced (row_axes axes) (integer_row texts (product (row_axes axes)) (last_axis axes))
+rows_by sort.Char axes texts = spaced (row_axes axes) (character_row texts (last_axis axes))
+rows_by sort.Boxed axes texts = []
+
+unfoldable pub rows_of : Noun → List (List ℕ)
+rows_of v = rows_by (kind v) (shape v) (map spelling_of (atoms v))
+
+-- what is printed of an array: each row with a line end behind it
+abbrev pub lines_of : List (List ℕ) → List ℕ
+lines_of rows = flat_map (λ row. row ++ line_end ∷ []) rows
+
+unfoldable pub display_of : Noun → List ℕ
+display_of v = lines_of (rows_of v)

@@ -1,0 +1,88 @@
+//! The display of an array as an array of characters.
+
+ghost use Rattle.std.specs.Prelude.{◌≡◌, ◌≢◌, ◌≤◌, ◌*◌, ◌==◌, if◌then◌else◌, ◌++◌, ◌∷◌, [], IfOk, IfErr, length, map};
+ghost use Rattle.std.specs.List.{range_with_len, flat_map};
+ghost use Rattle.jdata.specs.Noun.{kind, product};
+ghost use Rattle.jdata.specs.declared.noun.Kind.TheVariants as sort;
+ghost use Rattle.jnumber.specs.Spelling.{written};
+ghost use Rattle.jshape.specs.Shapes.{IsShape};
+ghost use Rattle.jformat.specs.Rows.{integer_row, width_of};
+ghost use Rattle.jformat.specs.Format.{format_of, limited, integer_text};
+ghost use Rattle.jformat.specs.Answers.{IsAnswer, IsLimitWhere};
+
+use crate::axes::{atoms_of_row, last_axis, row_shape};
+use crate::widths::{column_widths, row_width};
+use crate::writing::push_fields;
+use jdata::{Bytes, Fault, Leaves, NoMemory, Tree, Trouble};
+use jshape::Shape;
+use std::alloc::Global;
+
+/// The rows of an array without boxes as an array of characters (monadic `":`). Its only fault is
+/// Limit: the result would be beyond the limits of an array.
+pub fn format(alloc: Global, value: &Tree) -> Result<Tree, Trouble>
+    requires { kind value.now ≢ sort.Boxed }
+    ensures { IsAnswer (format_of value.now) result }
+{
+    match value.items() {
+        Leaves::Int(numbers) => format_integers(alloc, value.shape(), numbers.items()),
+        Leaves::Char(_) => match value.copy(alloc) {
+            Ok(copy) => Ok(copy),
+            Err(NoMemory) => Err(Trouble::NoMemory),
+        },
+        Leaves::Cell(_) => Err(Trouble::Fault(Fault::Nonce)),
+    }
+}
+
+fn format_integers(alloc: Global, axes: &[u64], numbers: &[i64]) -> Result<Tree, Trouble>
+    requires shape { IsShape axes.now }
+    requires whole { length numbers.now ≡ product axes.now }
+    ensures { IsAnswer (limited (integer_text axes.now (map written numbers.now))) result }
+{
+    let row_shape = row_shape(alloc, axes)?;
+    let rows = row_shape.product() as usize;
+    let columns = last_axis(axes) as usize;
+    let widths = column_widths(alloc, numbers, rows, columns)?;
+    let width = row_width(widths.as_slice()) as u64;
+    let shape = match text_axes(alloc, row_shape.axes(), width) {
+        Ok(shape) => shape,
+        Err(trouble) => return Err(trouble),
+    };
+    let text = text_of_rows(alloc, numbers, rows, columns, widths.as_slice())?;
+    match Tree::new(shape, Leaves::Char(Bytes::of(text))) {
+        Ok(tree) => Ok(tree),
+        Err(_) => Err(Trouble::Fault(Fault::Limit)),
+    }
+}
+
+/// The axes of rows of a width, where they are within the limits.
+fn text_axes(alloc: Global, row_axes: &[u64], width: u64) -> Result<Vec<u64>, Trouble>
+    ensures ok { IfOk result (λ axes. axes.items ≡ row_axes.now ++ width ∷ []) }
+    ensures within { IfOk result (λ axes. IsShape axes.items) }
+    ensures err { IfErr result (λ why. IsLimitWhere why (¬ IsShape (row_axes.now ++ width ∷ []))) }
+{
+    let mut axes = Vec::from_slice(alloc, row_axes)?;
+    axes.push(width)?;
+    match Shape::new(alloc, axes.as_slice()) {
+        Ok(_) => Ok(axes),
+        Err(trouble) => Err(trouble),
+    }
+}
+
+/// The rows one after another, without line ends.
+fn text_of_rows(
+    alloc: Global,
+    numbers: &[i64],
+    rows: usize,
+    columns: usize,
+    widths: &[u8],
+) -> Result<Vec<u8>, NoMemory>
+    requires room { rows * columns ≤ length numbers.now }
+    requires widths { widths.now ≡ map (width_of (map written numbers.now) rows columns) (range_with_len 0 (if rows == 0 then 0 else columns)) }
+    ensures { IfOk result (λ text. text.items ≡ flat_map (integer_row (map written numbers.now) rows columns) (range_with_len 0 rows)) }
+{
+    let mut text = Vec::new(alloc);
+    for row in 0..rows {
+        push_fields(&mut text, widths, atoms_of_row(numbers, columns, row))?;
+    }
+    Ok(text)
+}

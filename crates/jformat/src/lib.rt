@@ -1,0 +1,14 @@
+//! The display of arrays as rows of characters.
+#![tactic(auto)]
+
+mod axes;
+mod formatting;
+mod planes;
+mod showing;
+#[cfg(test)]
+mod tests;
+mod widths;
+mod writing;
+
+pub use formatting::format;
+pub use showing::display;

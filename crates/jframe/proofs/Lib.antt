@@ -1,0 +1,5 @@
+pub mod Lists
+pub mod Arrays
+pub mod Spreading
+pub mod Joining
+pub mod Assembling

@@ -1,0 +1,2 @@
+pub mod Monads
+pub mod InPlace

@@ -1,0 +1,9 @@
+pub mod Bounds
+pub mod TruthValues
+pub mod Fractions
+pub mod PowerLaws
+pub mod SearchLaws
+pub mod DivisorLaws
+pub mod RootLaws
+pub mod ChoiceLaws
+pub mod LawProofs

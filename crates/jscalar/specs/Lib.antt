@@ -1,0 +1,10 @@
+pub mod Fitted
+pub mod Searches
+pub mod Truths
+pub mod Quotients
+pub mod Divisors
+pub mod Powers
+pub mod Choices
+pub mod Monads
+pub mod Dyads
+pub mod Laws
