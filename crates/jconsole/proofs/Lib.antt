@@ -1,2 +1,2 @@
-pub mod Bytes
-pub mod Sending
+pub mod Solos
+pub mod Telling

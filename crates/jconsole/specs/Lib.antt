@@ -1,4 +1,2 @@
-pub mod Session
-pub mod Reading
-pub mod Running
 pub mod Statuses
+pub mod Session

@@ -1,12 +1,60 @@
--- What a session prints, and why it ends as it does.
-use Rattle.std.specs.Prelude.{ℕ, ◌+◌, ◌≤◌, List, flat_map}
-use Rattle.jwords.specs.Lines.{lines_of}
-use Rattle.jeval.specs.Printing.{prints_of}
+-- The session of a script on one thread: what it wrote is the prints of a history of its sentences.
+use Rattle.std.specs.Prelude.{ℕ, ◌≡◌, ◌≤◌, ◌+◌, ◌⊎◌, List, [], ◌∷◌, ◌++◌, length, Option, Some, IfSome}
+use Rattle.std.specs.Io.{StartsWith}
+use Rattle.std.specs.Io.KnownBytes.{Appends, Consumes, IsAtEnd}
+use Rattle.jeval.specs.declared.state.State.{State}
+use Rattle.jio.specs.Counts.{Rises}
+use Rattle.jio.specs.Sink.{TookPart}
+use Rattle.jsession.specs.Items.{sentences, ended}
+use Rattle.jsession.specs.Ran.{Paper}
+use Rattle.jsession.specs.Reads.{Side, ReadPastLimit}
+use Rattle.jsession.specs.Script.{script_of}
+use Rattle.jsession.specs.declared.status.Status.{Status}
+use Rattle.jsession.specs.declared.status.Status.TheVariants as status
+use Rattle.juses.specs.Histories.{Legal, Faithful, OneThreadRun, prints}
+use Rattle.juses.specs.Program.{Program}
+use Rattle.juses.specs.declared.uses.Entry.{Entry}
+use Rattle.juses.specs.declared.uses.Reply.{Reply}
+use Rattle.juses.specs.declared.uses.Use.{Use}
 
--- the prints of the script's lines, in order
-abbrev pub prints_of_script : ℕ → List ℕ → List ℕ
-prints_of_script turns bytes = flat_map (prints_of turns) (lines_of bytes)
+-- what main runs: these sentences, with 10,000,000 turns each
+abbrev pub main_program : List (List ℕ) → Program Use Reply State
+main_program items = script_of 10000000 items
 
--- so many bytes were given that the script has one more than it may have
-abbrev pub ReadPastLimit : ℕ → ℕ → Type 0
-ReadPastLimit given given' = given + 16777217 ≤ given'
+-- the sink took the prints of the one-thread run of these sentences
+abbrev pub WroteRun : (took took' : Option (List ℕ)) → List (List ℕ) → Type 0
+WroteRun took took' items = (h : List Entry) × OneThreadRun (main_program items) 0 h × Appends took took' (prints h)
+
+-- the sink took a beginning of the prints of a history that the sentences and the desk make so far
+abbrev pub WrotePart : (took took' : Option (List ℕ)) → List (List ℕ) → Type 0
+WrotePart took took' items = (h : List Entry) × Legal 0 h × Faithful (main_program items) h × TookPart took took' (prints h)
+
+-- the bytes at the front of the script that were read
+abbrev pub IsFront : List ℕ → Option (List ℕ) → List ℕ → Type 0
+IsFront script left front = Consumes (Some script) left front
+
+-- the items of a script: all its sentences where it was read to its end, and else those whose line end was read
+abbrev pub AreItems : List ℕ → Option (List ℕ) → List (List ℕ) → Type 0
+AreItems script left items = ((items ≡ sentences script) × IsAtEnd left) ⊎ ((front : List ℕ) × StartsWith script front × (items ≡ sentences (ended front)))
+
+-- what a session over a new desk did, by its status
+abbrev pub Told : Side → Side → Paper → Paper → Status → Type 0
+Told source source' sink sink' status.Done =
+    IfSome source.left (λ script. WroteRun sink.took sink'.took (sentences script)) × IsAtEnd source'.left
+    × (source'.given ≤ source.given + 16777216) × (sink'.whole ≡ sink.whole)
+Told source source' sink sink' status.ReadFault =
+    IfSome source.left (λ script. (front : List ℕ) × IsFront script source'.left front × WroteRun sink.took sink'.took (sentences (ended front)))
+    × Rises source.faults source'.faults × (source'.given ≤ source.given + 16777216) × (sink'.whole ≡ sink.whole)
+Told source source' sink sink' status.TooLong =
+    IfSome source.left (λ script. (front : List ℕ) × (last : ℕ) × (length front ≡ 16777216) × IsFront script source'.left (front ++ last ∷ [])
+    × WroteRun sink.took sink'.took (sentences (ended front)))
+    × ReadPastLimit source.given source'.given × (sink'.whole ≡ sink.whole)
+Told source source' sink sink' status.WriteFault =
+    IfSome source.left (λ script. (items : List (List ℕ)) × AreItems script source'.left items × WrotePart sink.took sink'.took items) × Rises sink.faults sink'.faults
+Told source source' sink sink' status.NoMemory =
+    IfSome source.left (λ script. (items : List (List ℕ)) × AreItems script source'.left items × WrotePart sink.took sink'.took items)
+Told source source' sink sink' status.Usage = ⊥
+
+-- no more bytes were given than were left
+abbrev pub GivesWhatIsLeft : Side → Side → Type 0
+GivesWhatIsLeft source source' = IfSome source.left (λ script. source'.given ≤ source.given + length script)

@@ -1,7 +1,7 @@
 -- What the program tells of a session's end: its exit status, and what stands on standard error behind its name.
 use Rattle.std.specs.Prelude.{ℕ, List, codes, Option, Some, None}
-use Rattle.jconsole.specs.declared.outcome.Status.{Status}
-use Rattle.jconsole.specs.declared.outcome.Status.TheVariants as status
+use Rattle.jsession.specs.declared.status.Status.{Status}
+use Rattle.jsession.specs.declared.status.Status.TheVariants as status
 
 abbrev pub exit_code_of : Status → ℕ
 exit_code_of status.Done = 0

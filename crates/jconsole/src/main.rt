@@ -2,12 +2,12 @@
 #![tactic(auto)]
 
 mod outcome;
-mod reading;
-mod running;
+mod session;
 mod top;
 
 use jio::{StdSink, StdSource};
-pub use outcome::{Outcome, Status};
+use jsession::Status;
+pub use outcome::{Outcome, exit_code, message};
 use std::process::ExitCode;
 use std::rt::Env;
 use std::{env, io};
@@ -42,10 +42,10 @@ fn status_of(rt: &HostRuntime) -> Status {
 
 fn main(rt: HostRuntime) -> ExitCode {
     let status = status_of(&rt);
-    if let Some(words) = status.message() {
+    if let Some(words) = message(status) {
         let _ = eprintln!(rt; "jconsole: {words}");
     }
-    ExitCode::from(status.exit_code())
+    ExitCode::from(exit_code(status))
 }
 
 #[cfg(test)]

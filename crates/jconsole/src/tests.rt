@@ -1,8 +1,9 @@
 //! Scripts and what they print, with statuses: what a J user and the session's rules expect.
 ghost use Rattle.std.specs.Prelude.{◌≤◌};
 
-use crate::{Status, run_solo};
+use crate::{exit_code, message, run_solo};
 use jio::{MemSink, MemSource};
+use jsession::Status;
 use std::alloc::Global;
 use std::test::Fail;
 
@@ -45,7 +46,7 @@ fn scripts_and_their_prints(rt: HostRuntime) -> Result<(), Fail> {
         ),
         (
             "- 3 - 5\n* _7\n+\n3 +\nx\n1 2\n",
-            "2\n_1\nverb\n|nonce error\n|   3 +\n|spelling error\n|   x\n|spelling error\n|   1 2\n",
+            "2\n_1\nverb\n|nonce error\n|   3 +\n|value error\n|   x\n1 2\n",
         ),
         // a carriage return before a line feed is dropped, and the last line may lack its end
         ("1 + 1\r\n\r\n 2*3", "2\n6\n"),
@@ -53,7 +54,7 @@ fn scripts_and_their_prints(rt: HostRuntime) -> Result<(), Fail> {
         (" \t 5 -\t1 \t\n   \n\n", "4\n"),
         (
             "  3 +. 4 \n_\n1_000\n5_\n3abc\n1:\n+:\n",
-            "|spelling error\n|   3 +. 4\n|spelling error\n|   _\n|spelling error\n|   1_000\n|spelling error\n|   5_\n|spelling error\n|   3abc\n|spelling error\n|   1:\n|spelling error\n|   +:\n",
+            "1\n|nonce error\n|   _\n|ill-formed number\n|   1_000\n|ill-formed number\n|   5_\n|ill-formed number\n|   3abc\n|nonce error\n|   1:\nverb\n",
         ),
         (
             "- - - 5\n2 - - 5\n+ - *\n3 + - * _5 * 2\n",
@@ -61,12 +62,27 @@ fn scripts_and_their_prints(rt: HostRuntime) -> Result<(), Fail> {
         ),
         (
             "9223372036854775808\n_9223372036854775809\n007\n_0\n",
-            "|spelling error\n|   9223372036854775808\n|spelling error\n|   _9223372036854775809\n7\n0\n",
+            "|ill-formed number\n|   9223372036854775808\n|ill-formed number\n|   _9223372036854775809\n7\n0\n",
         ),
         (
             "3037000500 * 3037000500\n3037000499 * 3037000499\n_9223372036854775808 + 0\n",
             "|nonce error\n|   3037000500 * 3037000500\n9223372030926249001\n_9223372036854775808\n",
         ),
+        // names, and a name that refers to itself
+        (
+            "a =: 3 + 4\na * a\nb\ns =: -\ns 5\ns =: +\ns 5\nf =: f\nf 3\n",
+            "49\n|value error\n|   b\n_5\n5\n|stack error\n|   f 3\n",
+        ),
+        // lists, characters, and frames that disagree
+        (
+            "1 2 3 * 4 5 6\n'abc'\n1 = 'a'\n'a' + 1\n1 2 + 1 2 3\n",
+            "4 10 18\nabc\n0\n|domain error\n|   'a' + 1\n|length error\n|   1 2 + 1 2 3\n",
+        ),
+        (
+            "6 % 2\n7 % 2\n0 % 0\n_3 | 7\n3 | _7\n0 | 7\n'it''s'\n''''\n'it''s\n",
+            "3\n|nonce error\n|   7 % 2\n0\n_2\n2\n7\nit's\n'\n|open quote\n|   'it''s\n",
+        ),
+        ("NB. nothing\n(1 + 2) * 3 NB. nine\n", "9\n"),
     ];
     for (script, prints) in rows {
         let run = run_script(rt.alloc(), script.as_bytes(), 7, 0, 0)?;
@@ -88,9 +104,9 @@ fn faults_of_the_outside(rt: HostRuntime) -> Result<(), Fail> {
     assert_eq!(rt; unread.status, Status::ReadFault);
     assert!(rt; unread.printed.is_empty());
     assert_eq!(rt; unread.left, 4);
-    let late = run_script(rt.alloc(), b"1\n2\n", 1, 3, 0)?;
+    let late = run_script(rt.alloc(), b"1\n2\n", 1, 4, 0)?;
     assert_eq!(rt; late.status, Status::ReadFault);
-    assert!(rt; late.printed.is_empty());
+    assert_eq!(rt; late.printed.as_slice(), b"1\n".as_slice());
     let good = run_script(rt.alloc(), b"1\n2\n", 64, 3, 3)?;
     assert_eq!(rt; good.status, Status::Done);
     assert_eq!(rt; good.printed.as_slice(), b"1\n2\n".as_slice());
@@ -139,6 +155,27 @@ fn the_greatest_script_and_line(rt: HostRuntime) -> Result<(), Fail> {
     Ok(())
 }
 
+// Why a byte is no sentence by itself.
+fn why_refused(byte: u8) -> &'static str {
+    match byte {
+        b'A'..=b'Z' | b'a'..=b'z' => "value error",
+        b'(' | b')' => "syntax error",
+        b'\'' => "open quote",
+        // listed words of which nothing is built
+        b',' | b';' | b'#' | b'$' | b'[' | b']' | b'{' | b'}' => "nonce error",
+        b'/' | b'\\' | b'~' | b'"' | b'@' | b'&' | b':' | b'_' => "nonce error",
+        _ => "spelling error",
+    }
+}
+
+fn fault_of_byte(alloc: Global, byte: u8) -> Result<Vec<u8>, Fail> {
+    let mut fault = Vec::from_slice(alloc, b"|")?;
+    fault.extend_from_slice(why_refused(byte).as_bytes())?;
+    fault.extend_from_slice(b"\n|   ")?;
+    fault.extend_from_slice(&[byte, b'\n'])?;
+    Ok(fault)
+}
+
 #[test]
 fn every_byte_alone(rt: HostRuntime) -> Result<(), Fail> {
     for byte in 0..=255u8 {
@@ -147,12 +184,10 @@ fn every_byte_alone(rt: HostRuntime) -> Result<(), Fail> {
         let wanted = match byte {
             b' ' | b'\t' | b'\r' | b'\n' => Vec::new(rt.alloc()),
             b'0'..=b'9' => Vec::from_slice(rt.alloc(), &[byte, b'\n'])?,
-            b'+' | b'-' | b'*' => Vec::from_slice(rt.alloc(), b"verb\n")?,
-            _ => {
-                let mut fault = Vec::from_slice(rt.alloc(), b"|spelling error\n|   ")?;
-                fault.extend_from_slice(&[byte, b'\n'])?;
-                fault
+            b'+' | b'-' | b'*' | b'%' | b'|' | b'^' | b'!' | b'<' | b'>' | b'=' => {
+                Vec::from_slice(rt.alloc(), b"verb\n")?
             }
+            _ => fault_of_byte(rt.alloc(), byte)?,
         };
         assert_eq!(rt; run.printed.as_slice(), wanted.as_slice(), "byte {byte}");
     }
@@ -169,8 +204,8 @@ fn statuses(rt: HostRuntime) {
         (Status::NoMemory, 4, Some("no memory")),
         (Status::TooLong, 7, Some("script too long")),
     ];
-    for (status, code, message) in rows {
-        assert_eq!(rt; status.exit_code(), code);
-        assert_eq!(rt; status.message(), message);
+    for (status, code, text) in rows {
+        assert_eq!(rt; exit_code(status), code);
+        assert_eq!(rt; message(status), text);
     }
 }

@@ -1,21 +1,20 @@
 //! The top call.
-ghost use Rattle.std.specs.Prelude.{◌≡◌, ◌≢◌, ◌≤◌, ◌+◌, ◌↔◌, ◌⊎◌, [], IfSome, length};
-ghost use Rattle.std.specs.Io.KnownBytes.{Appends, IsAtEnd};
+ghost use Rattle.std.specs.Prelude.{◌≡◌, ◌≢◌, ◌≤◌, ◌↔◌, ◌⊎◌, [], ◌∷◌, ◌++◌, List, ℕ, IfSome, length};
+ghost use Rattle.std.specs.Io.KnownBytes.{IsAtEnd};
 ghost use Rattle.jio.specs.Counts.{Rises};
-ghost use Rattle.jio.specs.Sink.{TookPart};
-ghost use Rattle.jconsole.specs.Session.{prints_of_script, ReadPastLimit};
-ghost use Rattle.jconsole.specs.declared.outcome.Status.TheVariants as status;
+ghost use Rattle.jsession.specs.Items.{sentences, ended};
+ghost use Rattle.jsession.specs.Reads.{ReadPastLimit};
+ghost use Rattle.jsession.specs.declared.status.Status.TheVariants as status;
+ghost use Rattle.jconsole.specs.Session.{WroteRun, WrotePart, IsFront, AreItems};
 
-use crate::outcome::{Outcome, Status};
-use crate::reading::read_script;
-use crate::running::run_lines;
+use crate::outcome::Outcome;
+use crate::session::session;
 use jio::{Sink, Source};
+use jsession::Status;
 use std::alloc::Global;
 
-/// How many turns a sentence may take.
-pub const TURNS: u64 = 10_000_000;
-
-/// Reads a whole script and runs its lines on one thread; each line's prints are written in one piece.
+/// Reads a script and runs its sentences on one thread, over a desk without workers. The prints of each are written in
+/// one piece.
 pub fn run_solo<S: Source, K: Sink>(
     alloc: Global,
     words: &[String],
@@ -25,28 +24,34 @@ pub fn run_solo<S: Source, K: Sink>(
     // Any word is a faulty command line.
     ensures usage { (result.status ≡ status.Usage) ↔ (words.now ≢ []) }
     ensures unread { result.status ≡ status.Usage → script.new ≡ script.old }
+    ensures unwritten { result.status ≡ status.Usage → out.new ≡ out.old }
 
-    // What the lines print is written, in order, and the script was read to its end.
+    // The prints of the one-thread run of the script's sentences are written, in order, and it was read to its end.
     ensures done { result.status ≡ status.Done → IfSome (S.left script.old) (λ bytes.
-        Appends (K.took out.old) (K.took out.new) (prints_of_script TURNS bytes)) }
+        WroteRun (K.took out.old) (K.took out.new) (sentences bytes)) }
     ensures read { result.status ≡ status.Done → IsAtEnd (S.left script.new) }
-    ensures whole { result.status ≡ status.Done → K.whole out.new ≡ K.whole out.old }
 
-    // A failed write, or want of memory, leaves a beginning of that.
-    ensures write_fault { result.status ≡ status.WriteFault → IfSome (S.left script.old) (λ bytes.
-        TookPart (K.took out.old) (K.took out.new) (prints_of_script TURNS bytes)) }
-    ensures no_memory { result.status ≡ status.NoMemory → IfSome (S.left script.old) (λ bytes.
-        TookPart (K.took out.old) (K.took out.new) (prints_of_script TURNS bytes)) }
+    // Where reading broke off, the sentences whose line end was read before that are run.
+    ensures read_fault { result.status ≡ status.ReadFault → IfSome (S.left script.old) (λ bytes. (front : List ℕ) ×
+        IsFront bytes (S.left script.new) front × WroteRun (K.took out.old) (K.took out.new) (sentences (ended front))) }
+    ensures long { result.status ≡ status.TooLong → IfSome (S.left script.old) (λ bytes. (front : List ℕ) × (last : ℕ) × (length front ≡ 16777216) ×
+        IsFront bytes (S.left script.new) (front ++ last ∷ []) × WroteRun (K.took out.old) (K.took out.new) (sentences (ended front))) }
 
-    // Under the other answers nothing is written.
-    ensures usage_is_silent { result.status ≡ status.Usage → out.new ≡ out.old }
-    ensures read_fault_is_silent { result.status ≡ status.ReadFault → out.new ≡ out.old }
-    ensures too_long_is_silent { result.status ≡ status.TooLong → out.new ≡ out.old }
+    // A failed write, or want of memory, leaves a beginning of the prints of a history of the items.
+    ensures write_fault { result.status ≡ status.WriteFault → IfSome (S.left script.old) (λ bytes. (items : List (List ℕ)) ×
+        AreItems bytes (S.left script.new) items × WrotePart (K.took out.old) (K.took out.new) items) }
+    ensures no_memory { result.status ≡ status.NoMemory → IfSome (S.left script.old) (λ bytes. (items : List (List ℕ)) ×
+        AreItems bytes (S.left script.new) items × WrotePart (K.took out.old) (K.took out.new) items) }
+
+    // Each write was answered All, but for a failed one and want of memory.
+    ensures whole { result.status ≢ status.WriteFault → result.status ≢ status.NoMemory → K.whole out.new ≡ K.whole out.old }
 
     // Why they come.
     ensures read_cause { result.status ≡ status.ReadFault → Rises (S.faults script.old) (S.faults script.new) }
     ensures write_cause { result.status ≡ status.WriteFault → Rises (K.faults out.old) (K.faults out.new) }
-    ensures too_long { (result.status ≡ status.TooLong) ↔ ReadPastLimit (S.given script.old) (S.given script.new) }
+    ensures too_long { result.status ≡ status.TooLong → ReadPastLimit (S.given script.old) (S.given script.new) }
+    ensures past_limit { ReadPastLimit (S.given script.old) (S.given script.new) →
+        (result.status ≡ status.TooLong) ⊎ (result.status ≡ status.WriteFault) ⊎ (result.status ≡ status.NoMemory) }
 
     // Without words, without a fault, and with a script that isn't too long the session is done, or memory was missing.
     ensures complete { words.now ≡ [] → ¬ Rises (S.faults script.old) (S.faults script.new) → ¬ Rises (K.faults out.old) (K.faults out.new)
@@ -59,9 +64,7 @@ pub fn run_solo<S: Source, K: Sink>(
             status: Status::Usage,
         };
     }
-    let status = match read_script(alloc, script) {
-        Ok(bytes) => run_lines(alloc, TURNS, &bytes, out),
-        Err(status) => status,
-    };
-    Outcome { status }
+    Outcome {
+        status: session(alloc, script, out),
+    }
 }

@@ -1,5 +1,7 @@
+pub mod Runs
 pub mod Classes
-pub mod Going
-pub mod Silence
 pub mod Reading
-pub mod Cutting
+pub mod Turns
+pub mod Splitting
+pub mod Executes
+pub mod Lines

@@ -7,8 +7,9 @@ use Rattle.std.specs.List.{list_all}
 use Rattle.std.specs.Str.Parse.{AllDigits}
 use Rattle.jnumber.specs.Spelling.{Spells, digits_in, number_in}
 use Rattle.jnumber.specs.Reading.{IsReading}
-use Rattle.jnumber.specs.declared.reading.Read.TheVariants.{Number, Wide, Not}
-use Rattle.jeval.specs.Numbers.{fits, is_decimal, is_number, number_of}
+use Rattle.jnumber.specs.declared.reading.Read.TheVariants.{Wide, Not}
+use Rattle.jwords.specs.Numbers.{fits, is_decimal, is_number}
+use Rattle.jeval.specs.Constants.{number}
 
 pub fits_from : (z : ℤ) → FitsSigned w64 z → fits z ≡ true
 fits_from (pos n) h = grind (arith, nat_tests)
@@ -47,8 +48,8 @@ not_number run h = elim (cases_Bool (is_number run)) [ inl is ↦ absurd (h.1 (n
 pub wide_is_no_number : (run : List ℕ) → IsReading run Wide → is_number run ≡ false
 wide_is_no_number run h = let P : List ℕ → Type 0 = λ r. is_number r ≡ false in subst P (sym h) refl
 
-pub number_is : (run : List ℕ) (number : ℤ) → IsReading run (Number number) → Some number ≡ number_of run
-number_is run number h = rw (is_number_from run number h) (ap Some h.value)
+pub number_is : (run : List ℕ) (n : ℤ) → Spells run n → Some n ≡ number run
+number_is run n h = rw (is_number_from run n h) (ap Some h.value)
 
-pub none_is : (run : List ℕ) → is_number run ≡ false → None ≡ number_of run
+pub none_is : (run : List ℕ) → is_number run ≡ false → None ≡ number run
 none_is run h = rw h refl

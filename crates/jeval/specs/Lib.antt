@@ -1,8 +1,11 @@
-pub mod Alphabet
-pub mod Numbers
-pub mod Words
+pub mod Doing
+pub mod Made
 pub mod Verbs
+pub mod Applying
 pub mod Parsing
-pub mod Sentence
-pub mod Printing
-pub mod Answers
+pub mod Rows
+pub mod Constants
+pub mod Built
+pub mod Execution
+pub mod Showing
+pub mod Session

@@ -1,26 +1,22 @@
--- The verbs that are built, on integers (J Dictionary, "Vocabulary"): what an application gives, or its fault.
-use Rattle.std.specs.Prelude.{ℤ, ◌+ℤ◌, ◌-ℤ◌, ◌*ℤ◌, neg_ℤ, if◌then◌else◌, Result, Ok, Err}
-use Rattle.std.specs.Int.{int_signum}
+-- The primitive verbs that are built (J Dictionary, "Vocabulary"): the scalar ones. What an application gives, or its fault;
+-- an application of which nothing is built is a nonce error.
+use Rattle.std.specs.Prelude.{if◌then◌else◌, Option, Some, None, Result, Err}
+use Rattle.jdata.specs.declared.noun.Noun.{Noun}
 use Rattle.jdata.specs.declared.primitive.Primitive.{Primitive}
-use Rattle.jdata.specs.declared.primitive.Primitive.TheVariants.{Plus, Minus, Times}
 use Rattle.jdata.specs.declared.fault.Fault.{Fault}
 use Rattle.jdata.specs.declared.fault.Fault.TheVariants.{Nonce}
-use Rattle.jeval.specs.Numbers.{fits}
+use Rattle.jscalar.specs.Monads.{is_scalar_monad}
+use Rattle.jscalar.specs.Dyads.{is_scalar_dyad}
+use Rattle.jmono.specs.Monads.{scalar_monad}
+use Rattle.jdyad.specs.Dyads.{scalar_dyad}
 
--- a number within 64 signed bits; one beyond isn't built
-abbrev pub fitted : ℤ → Result ℤ Fault
-fitted number = if fits number then Ok number else Err Nonce
+abbrev pub monad : Primitive → Noun → Result Noun Fault
+monad verb y = if is_scalar_monad verb then scalar_monad verb y else Err Nonce
 
--- conjugate, negate, signum
-abbrev pub monad : Primitive → ℤ → Result ℤ Fault
-monad Plus y = Ok y
-monad Minus y = fitted (neg_ℤ y)
-monad Times y = Ok (int_signum y)
-monad other y = Err Nonce
+abbrev pub dyad : Primitive → Noun → Noun → Result Noun Fault
+dyad verb x y = if is_scalar_dyad verb then scalar_dyad verb x y else Err Nonce
 
--- plus, minus, times
-abbrev pub dyad : Primitive → ℤ → ℤ → Result ℤ Fault
-dyad Plus x y = fitted (x +ℤ y)
-dyad Minus x y = fitted (x -ℤ y)
-dyad Times x y = fitted (x *ℤ y)
-dyad other x y = Err Nonce
+-- with a left argument or without
+abbrev pub primitive : Primitive → Option Noun → Noun → Result Noun Fault
+primitive verb None y = monad verb y
+primitive verb (Some x) y = dyad verb x y

@@ -1,17 +1,26 @@
-//! Sentences: the words of a line, executed from right to left.
+//! Sentences: the words of a line, executed from right to left, with the uses that they make.
 #![tactic(auto)]
 
-mod alphabet;
-mod cut;
+mod applying;
+mod constants;
+mod end;
+mod eval;
 mod part;
 mod printing;
+mod queue;
 mod rows;
-mod sentence;
+mod running;
 mod stack;
+mod state;
 mod step;
+mod valence;
 mod verbs;
-mod word;
 
+pub use end::EvalEnd;
+pub use eval::{Eval, Shown};
 pub use part::Part;
-pub use printing::print_line;
+pub use state::State;
 pub use step::Act;
+
+#[cfg(test)]
+mod tests;

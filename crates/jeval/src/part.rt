@@ -1,21 +1,38 @@
 //! Parts of a sentence.
 
-use jdata::Primitive;
+use jarray::Array;
+use jdata::Name;
+use jterm::Term;
 
 /// A part of a sentence (J Dictionary, "Parsing and Execution").
-#[derive(Clone, Copy, Debug, PartialEq, Eq)]
+#[derive(Debug, Drop)]
 pub enum Part {
     /// Stands before the first word.
     Mark,
-    Verb(Primitive),
-    /// An integer that stands alone.
-    Noun(i64),
+    /// `=.` or `=:`.
+    Copula,
+    /// `(`
+    Left,
+    /// `)`
+    Right,
+    /// A name in front of a copula.
+    Target(Name),
+    Verb {
+        term: Term,
+        /// Whether it had a value when it was moved, where it is a reference.
+        found: bool,
+    },
+    Noun(Array),
 }
 
 /// What the parsing table asks of a part.
 #[derive(Clone, Copy, Debug, PartialEq, Eq)]
 pub enum Class {
-    Edge,
+    Mark,
+    Copula,
+    Left,
+    Right,
+    Target,
     Verb,
     Noun,
 }
@@ -24,12 +41,16 @@ impl Part {
     ghost use Rattle.std.specs.Prelude.{◌≡◌};
     ghost use Rattle.jeval.specs.Parsing.{class_of};
 
-    pub(crate) fn class(self) -> Class
-        ensures { result ≡ class_of self }
+    pub(crate) fn class(&self) -> Class
+        ensures { result ≡ class_of self.now }
     {
         match self {
-            Part::Mark => Class::Edge,
-            Part::Verb(_) => Class::Verb,
+            Part::Mark => Class::Mark,
+            Part::Copula => Class::Copula,
+            Part::Left => Class::Left,
+            Part::Right => Class::Right,
+            Part::Target(_) => Class::Target,
+            Part::Verb { .. } => Class::Verb,
             Part::Noun(_) => Class::Noun,
         }
     }

@@ -1,25 +1,25 @@
-//! What a line prints.
-ghost use Rattle.std.specs.Prelude.{◌≡◌, ◌++◌, ◌∷◌, [], OnOk, OnErr, Ok};
-ghost use Rattle.std.specs.Io.{StartsWith};
+//! What is printed of a sentence.
+ghost use Rattle.std.specs.Prelude.{◌≡◌, ◌≢◌, ◌++◌, ◌∷◌, [], OnOk, IfOk};
+ghost use Rattle.jdata.specs.Noun.{kind};
+ghost use Rattle.jdata.specs.declared.noun.Kind.TheVariants as sort;
+ghost use Rattle.jformat.specs.Rows.{display_of};
 ghost use Rattle.jnumber.specs.Spelling.{written};
 ghost use Rattle.jwords.specs.Alphabet.{line_feed};
-ghost use Rattle.jeval.specs.Printing as printing;
+ghost use Rattle.jeval.specs.Made.{Answers};
+ghost use Rattle.jeval.specs.Showing as showing;
 
-use crate::cut::words;
+use crate::applying::NO_MEMORY;
+use crate::end::EvalEnd;
 use crate::part::Part;
-use crate::sentence::execute;
 use crate::stack::Stack;
-use crate::word::{Word, WordFault};
-use jdata::{Fault, NoMemory, Trouble};
+use jarray::{Array, Form};
+use jdata::{Bytes, Fault, Kind, NoMemory};
+use jformat::display;
 use jwords::trimmed;
 use std::alloc::Global;
 
-/// How many bytes a line may have.
-const LINE_LIMIT: usize = 65_536;
-
 fn append(bytes: &[u8], out: &mut Vec<u8>) -> Result<(), NoMemory>
-    ensures ok { OnOk result (out.new.items ≡ out.old.items ++ bytes.now) }
-    ensures kept { StartsWith out.new.items out.old.items }
+    ensures { OnOk result (out.new.items ≡ out.old.items ++ bytes.now) }
 {
     match out.extend_from_slice(bytes) {
         Ok(()) => Ok(()),
@@ -27,10 +27,8 @@ fn append(bytes: &[u8], out: &mut Vec<u8>) -> Result<(), NoMemory>
     }
 }
 
-// The fault's words behind a bar, and the sentence behind a bar and three blanks.
 fn append_fault(fault: Fault, line: &[u8], out: &mut Vec<u8>) -> Result<(), NoMemory>
-    ensures ok { OnOk result (out.new.items ≡ out.old.items ++ printing.fault_lines fault line.now) }
-    ensures kept { StartsWith out.new.items out.old.items }
+    ensures { OnOk result (out.new.items ≡ out.old.items ++ showing.fault_lines fault line.now) }
 {
     append(b"|", out)?;
     append(fault.text().as_bytes(), out)?;
@@ -39,76 +37,101 @@ fn append_fault(fault: Fault, line: &[u8], out: &mut Vec<u8>) -> Result<(), NoMe
     append(b"\n", out)
 }
 
-// A noun is displayed, and a verb is named as one.
-fn append_shown(mut parts: Stack, out: &mut Vec<u8>) -> Result<(), NoMemory>
-    ensures ok { OnOk result (out.new.items ≡ out.old.items ++ printing.shown parts) }
-    ensures kept { StartsWith out.new.items out.old.items }
+/// The fault's words behind a bar, and the sentence behind a bar and three blanks.
+pub(crate) fn fault_lines(alloc: Global, fault: Fault, line: &[u8]) -> Result<Bytes, NoMemory>
+    ensures { IfOk result (λ bytes. bytes ≡ showing.fault_lines fault line.now) }
 {
-    let _mark = parts.pop();
-    match parts.pop() {
-        Some(Part::Noun(value)) => append_number(value, out),
-        Some(Part::Verb(_)) => append(b"verb\n", out),
-        Some(Part::Mark) => Ok(()),
-        None => Ok(()),
-    }
+    let mut out = Vec::new(alloc);
+    append_fault(fault, line, &mut out)?;
+    Ok(Bytes::of(out))
 }
 
-fn append_number(value: i64, out: &mut Vec<u8>) -> Result<(), NoMemory>
-    ensures ok { OnOk result (out.new.items ≡ out.old.items ++ written value ++ line_feed ∷ []) }
-    ensures kept { StartsWith out.new.items out.old.items }
+fn number_row(alloc: Global, number: i64) -> Result<Bytes, NoMemory>
+    ensures { IfOk result (λ bytes. bytes ≡ written number ++ line_feed ∷ []) }
 {
-    match jnumber::write(value, out) {
-        Ok(()) => append(b"\n", out),
+    let mut out = Vec::new(alloc);
+    match jnumber::write(number, &mut out) {
+        Ok(()) => {
+            append(b"\n", &mut out)?;
+            Ok(Bytes::of(out))
+        }
         Err(_) => Err(NoMemory),
     }
 }
 
-fn append_words(
+#[tactic(auto, using(jformat::specs::Single::display_of_int_atom))]
+fn display_rows(alloc: Global, value: &Array) -> Result<Bytes, NoMemory>
+    requires { kind value.now ≢ sort.Boxed }
+    ensures { IfOk result (λ bytes. bytes ≡ display_of value.now) }
+{
+    match value.form() {
+        Form::Atom(number) => number_row(alloc, *number),
+        Form::Own(tree) => match display(alloc, tree) {
+            Ok(bytes) => Ok(Bytes::of(bytes)),
+            Err(NoMemory) => Err(NoMemory),
+        },
+    }
+}
+
+// The rows of a value.
+fn rows(alloc: Global, value: &Array) -> Result<Option<Bytes>, EvalEnd>
+    ensures { Answers (showing.rows value.now) result }
+{
+    if value.kind() == Kind::Boxed {
+        return Err(EvalEnd::Fault(Fault::Nonce));
+    }
+    match display_rows(alloc, value) {
+        Ok(bytes) => Ok(Some(bytes)),
+        Err(NoMemory) => Err(NO_MEMORY),
+    }
+}
+
+fn verb_row(alloc: Global) -> Result<Bytes, NoMemory>
+    ensures { IfOk result (λ bytes. bytes ≡ showing.verb_row) }
+{
+    let mut out = Vec::new(alloc);
+    append(b"verb\n", &mut out)?;
+    Ok(Bytes::of(out))
+}
+
+// What a value shows where it is the whole result.
+fn shown_part(alloc: Global, part: &Part) -> Result<Option<Bytes>, EvalEnd>
+    ensures { Answers (showing.shown_part part.now) result }
+{
+    match part {
+        Part::Noun(value) => rows(alloc, value),
+        Part::Verb { found: true, .. } => match verb_row(alloc) {
+            Ok(bytes) => Ok(Some(bytes)),
+            Err(NoMemory) => Err(NO_MEMORY),
+        },
+        Part::Verb { found: false, .. } => Err(EvalEnd::Fault(Fault::Value)),
+        _ => Ok(None),
+    }
+}
+
+// The value behind the mark.
+fn ending_value(mut parts: Stack<Part>) -> Option<Part>
+    ensures { result ≡ showing.ending_value parts }
+{
+    match parts.pop() {
+        Some(_) => parts.pop(),
+        None => None,
+    }
+}
+
+/// What a sentence shows at its end: rows, or nothing.
+pub(crate) fn shown(
     alloc: Global,
-    turns: u64,
-    line: &[u8],
-    words: &[Word],
-    out: &mut Vec<u8>,
-) -> Result<(), NoMemory>
-    ensures ok { OnOk result (out.new.items ≡ out.old.items ++ printing.sentence_lines turns (Ok words.now) line.now) }
-    ensures kept { StartsWith out.new.items out.old.items }
+    parts: Stack<Part>,
+    assigned: bool,
+) -> Result<Option<Bytes>, EvalEnd>
+    ensures { Answers (showing.shown (parts, assigned)) result }
 {
-    if words.is_empty() {
-        return Ok(());
+    if assigned {
+        return Ok(None);
     }
-    match execute(alloc, turns, line, words) {
-        Ok(parts) => append_shown(parts, out),
-        Err(Trouble::Fault(fault)) => append_fault(fault, line, out),
-        Err(Trouble::NoMemory) => Err(NoMemory),
-    }
-}
-
-fn append_line(alloc: Global, turns: u64, line: &[u8], out: &mut Vec<u8>) -> Result<(), NoMemory>
-    ensures ok { OnOk result (out.new.items ≡ out.old.items ++ printing.prints_of turns line.now) }
-    ensures kept { StartsWith out.new.items out.old.items }
-{
-    if line.len() > LINE_LIMIT {
-        return append_fault(Fault::Limit, line, out);
-    }
-    match words(alloc, line) {
-        Ok(words) => append_words(alloc, turns, line, &words, out),
-        Err(WordFault::Spelling { .. }) => append_fault(Fault::Spelling, line, out),
-        Err(WordFault::NoMemory) => Err(NoMemory),
-    }
-}
-
-/// Runs the sentence of a line, with this many turns, and appends what it prints: the value, or the two lines of its
-/// fault; a line without words prints nothing. Without memory nothing is appended.
-pub fn print_line(alloc: Global, turns: u64, line: &[u8], out: &mut Vec<u8>) -> Result<(), NoMemory>
-    ensures ok { OnOk result (out.new.items ≡ out.old.items ++ printing.prints_of turns line.now) }
-    ensures err { OnErr result (out.new.items ≡ out.old.items) }
-{
-    let before = out.len();
-    match append_line(alloc, turns, line, out) {
-        Ok(()) => Ok(()),
-        Err(NoMemory) => {
-            out.truncate(before);
-            Err(NoMemory)
-        }
+    match ending_value(parts) {
+        Some(part) => shown_part(alloc, &part),
+        None => Ok(None),
     }
 }

@@ -1,5 +1,5 @@
-//! The parts that were read.
-ghost use Rattle.std.specs.Prelude.{◌≡◌, [], ◌∷◌, MatchOption, OnOk, OnErr};
+//! Lists that grow and shrink at their front.
+ghost use Rattle.std.specs.Prelude.{◌≡◌, [], ◌∷◌, length, MatchOption, OnOk, OnErr};
 ghost use Rattle.jeval.specs.Parsing.{class_at};
 
 use crate::part::{Class, Part};
@@ -7,51 +7,61 @@ use jdata::NoMemory;
 use std::alloc::Global;
 use std::marker::Model;
 
-/// The parts that were read, which contracts see from the left; the code keeps the leftmost at the end of its buffer.
+/// A list that grows and shrinks at its front. The code keeps the front at the end of its buffer.
 #[derive(Drop)]
-pub(crate) struct Stack {
-    parts: Vec<Part>,
+pub(crate) struct Stack<T> {
+    items: Vec<T>,
 }
 
-impl Model for Stack {
+impl<T> Model for Stack<T> {
     ghost use Rattle.std.specs.Prelude.{List, reverse};
-    ghost use Rattle.jeval.specs.declared.part.Part.{Part};
+    ghost use Rattle.std.specs.Coded.{coded_list};
 
-    ghost Value = { List Part };
+    ghost Value = { List T };
 
-    ghost view = { λ s. reverse s.parts.items };
+    ghost coded = { coded_list T.code };
+
+    ghost view = { λ s. reverse s.items.items };
 }
 
-impl Stack {
-    pub(crate) fn new(alloc: Global) -> Stack
+impl<T: Drop> Stack<T> {
+    pub(crate) fn new(alloc: Global) -> Stack<T>
         ensures { result ≡ [] }
     {
         Stack {
-            parts: Vec::new(alloc),
+            items: Vec::new(alloc),
         }
     }
 
-    pub(crate) fn push(&mut self, part: Part) -> Result<(), NoMemory>
-        ensures ok { OnOk result (self.new ≡ part ∷ self.old) }
+    pub(crate) fn push(&mut self, item: T) -> Result<(), NoMemory>
+        ensures ok { OnOk result (self.new ≡ item ∷ self.old) }
     {
-        match self.parts.push(part) {
+        match self.items.push(item) {
             Ok(()) => Ok(()),
             Err(_) => Err(NoMemory),
         }
     }
 
-    pub(crate) fn pop(&mut self) -> Option<Part>
-        ensures { MatchOption result ((self.old ≡ []) × (self.new ≡ [])) (λ part. self.old ≡ part ∷ self.new) }
+    pub(crate) fn pop(&mut self) -> Option<T>
+        ensures { MatchOption result ((self.old ≡ []) × (self.new ≡ [])) (λ item. self.old ≡ item ∷ self.new) }
     {
-        self.parts.pop()
+        self.items.pop()
     }
 
-    /// The class of the part at this place from the left.
+    pub(crate) fn len(&self) -> usize
+        ensures { result ≡ length self.now }
+    {
+        self.items.len()
+    }
+}
+
+impl Stack<Part> {
+    /// The class of the part at this place from the front.
     pub(crate) fn class(&self, at: usize) -> Option<Class>
         ensures { result ≡ class_at at self.now }
     {
-        if at < self.parts.len() {
-            Some(self.parts[self.parts.len() - 1 - at].class())
+        if at < self.items.len() {
+            Some(self.items[self.items.len() - 1 - at].class())
         } else {
             None
         }

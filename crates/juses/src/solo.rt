@@ -51,12 +51,14 @@ impl Solo {
 impl Uses for Solo {
     ghost leads = { Leads };
 
+    ghost drained = { λ d. d.waiting ≡ [] };
+
     ghost thread = { λ _. 0 };
 
     /// Answers one use, on thread 0.
     fn call(&mut self, who: Path, asked: Use) -> Result<Reply, Halt>
-        ensures ok { IfOk result (λ replied. Leads self.old (entry who 0 asked replied ∷ []) self.new) }
-        ensures err { OnErr result (Leads self.old [] self.new) }
+        ensures ok { IfOk result (λ replied. Leads self.old (entry who 0 asked replied ∷ []) [] self.new) }
+        ensures err { OnErr result (Leads self.old [] [] self.new) }
         ensures only { OnOk result (OnlyMoves self.old self.new) }
         ensures halts { HaltsRightly self.old.closed result }
         ensures unchanged { OnErr result (self.new ≡ self.old) }
@@ -66,7 +68,8 @@ impl Uses for Solo {
 
     /// The printed bytes that weren't taken yet, in order.
     fn take_prints(&mut self) -> Bytes
-        ensures leads { Leads self.old [] self.new }
+        ensures leads { Leads self.old [] result self.new }
+        ensures all { self.new.waiting ≡ [] }
         ensures bytes { result ≡ self.old.waiting }
         ensures rest { self.new ≡ handed_out self.old }
         ensures hands_out { HandsOut self.old result self.new }
@@ -76,7 +79,7 @@ impl Uses for Solo {
 
     /// Closes the session. The first cause counts.
     fn close(&mut self, cause: Cause)
-        ensures leads { Leads self.old [] self.new }
+        ensures leads { Leads self.old [] [] self.new }
         ensures closed { self.new ≡ closed_by self.old cause }
     {
         self.desk.close(cause);
@@ -86,5 +89,5 @@ impl Uses for Solo {
 
     ghost joins = { leads_on };
 
-    ghost same_thread = { λ s t es l. Prim.search };
+    ghost same_thread = { λ s t es bs l. Prim.search };
 }

@@ -64,28 +64,33 @@ pub enum Halt {
 
 /// Who answers the uses of activities.
 pub trait Uses {
-    /// These entries, oldest first, lead from the one state to the other.
-    ghost leads: { Self → List Entry → Self → Type 0 };
+    /// These entries, oldest first, lead from the one state to the other, and these printed bytes
+    /// were handed out between them.
+    ghost leads: { Self → List Entry → List ℕ → Self → Type 0 };
+
+    /// Each printed byte was handed out.
+    ghost drained: { Self → Type 0 };
 
     /// The thread on which its uses are made.
     ghost thread: { Self → ℕ };
 
     /// Answers one use.
     fn call(&mut self, who: Path, asked: Use) -> Result<Reply, Halt>
-        ensures ok { IfOk result (λ reply. leads self.old (entry who (thread self.old) asked reply ∷ []) self.new) }
-        ensures err { OnErr result (leads self.old [] self.new) };
+        ensures ok { IfOk result (λ reply. leads self.old (entry who (thread self.old) asked reply ∷ []) [] self.new) }
+        ensures err { OnErr result (leads self.old [] [] self.new) };
 
     /// The bytes that were printed and not taken yet, in order.
     fn take_prints(&mut self) -> Bytes
-        ensures { leads self.old [] self.new };
+        ensures leads { leads self.old [] result self.new }
+        ensures all { drained self.new };
 
     /// Closes the session, so that no later use is answered. The first cause counts.
     fn close(&mut self, cause: Cause)
-        ensures { leads self.old [] self.new };
+        ensures { leads self.old [] [] self.new };
 
-    ghost stays: { (s : Self) → leads s [] s };
+    ghost stays: { (s : Self) → leads s [] [] s };
 
-    ghost joins: { (s t u : Self) (es fs : List Entry) → leads s es t → leads t fs u → leads s (es ++ fs) u };
+    ghost joins: { (s t u : Self) (es fs : List Entry) (bs cs : List ℕ) → leads s es bs t → leads t fs cs u → leads s (es ++ fs) (bs ++ cs) u };
 
-    ghost same_thread: { (s t : Self) (es : List Entry) → leads s es t → thread t ≡ thread s };
+    ghost same_thread: { (s t : Self) (es : List Entry) (bs : List ℕ) → leads s es bs t → thread t ≡ thread s };
 }

@@ -1,0 +1,146 @@
+//! The nouns of number words and of quoted texts.
+ghost use Rattle.std.specs.Prelude.{◌≡◌, IfOk, Some, false, option_map};
+ghost use Rattle.jdata.specs.Limits.{checked};
+ghost use Rattle.jdata.specs.Trees.{noun_of};
+ghost use Rattle.jeval.specs.Constants as constants;
+
+use jarray::Array;
+use jdata::{Bytes, IntList, Leaves, NoMemory, Tree};
+use jnumber::{Read, read};
+use jwords::is_blank;
+use std::alloc::Global;
+
+fn number(run: &[u8]) -> Option<i64>
+    ensures { result ≡ constants.number run.now }
+{
+    match read(run) {
+        Read::Number(number) => Some(number),
+        Read::Wide => None,
+        Read::Not => None,
+    }
+}
+
+// Puts the number of a run behind those before it; whether the run, if there is one, is a number.
+fn push_run(numbers: &mut Vec<i64>, run: &[u8]) -> Result<bool, NoMemory>
+    ensures { IfOk result (λ is_number. constants.answered is_number numbers.new.items ≡ constants.with_run (Some numbers.old.items) run.now) }
+{
+    if run.is_empty() {
+        return Ok(true);
+    }
+    let Some(number) = number(run) else {
+        return Ok(false);
+    };
+    match numbers.push(number) {
+        Ok(()) => Ok(true),
+        Err(_) => Err(NoMemory),
+    }
+}
+
+// The numbers of a word, where each of its runs is one.
+fn numbers(alloc: Global, word: &[u8]) -> Result<Option<Vec<i64>>, NoMemory>
+    ensures { IfOk result (λ numbers. option_map (λ ns. ns.items) numbers ≡ constants.numbers word.now) }
+{
+    let mut numbers = Vec::new(alloc);
+    let mut start = 0;
+    for (i, byte) in word.iter().enumerate() {
+        if !is_blank(*byte) {
+            continue;
+        }
+        match push_run(&mut numbers, &word[start..i]) {
+            Ok(true) => start = i + 1,
+            Ok(false) => return Ok(None),
+            Err(NoMemory) => return Err(NoMemory),
+        }
+    }
+    match push_run(&mut numbers, &word[start..]) {
+        Ok(true) => Ok(Some(numbers)),
+        Ok(false) => Ok(None),
+        Err(NoMemory) => Err(NoMemory),
+    }
+}
+
+fn array(shape: Vec<u64>, items: Leaves) -> Option<Array>
+    ensures { result ≡ constants.if_array (checked (noun_of shape.items items)) }
+{
+    match Tree::new(shape, items) {
+        Ok(tree) => Some(Array::of(tree)),
+        Err(_) => None,
+    }
+}
+
+fn integers(alloc: Global, numbers: Vec<i64>) -> Result<Option<Array>, NoMemory>
+    ensures { IfOk result (λ array. array ≡ constants.integers numbers.items) }
+{
+    if let [number] = numbers.as_slice() {
+        return Ok(Some(Array::atom(*number)));
+    }
+    match Vec::from_slice(alloc, &[numbers.len() as u64]) {
+        Ok(shape) => Ok(array(shape, Leaves::Int(IntList::of(numbers)))),
+        Err(_) => Err(NoMemory),
+    }
+}
+
+/// The noun of a word of numbers, where each of its runs is a number.
+pub(crate) fn number_noun(alloc: Global, word: &[u8]) -> Result<Option<Array>, NoMemory>
+    ensures { IfOk result (λ noun. noun ≡ constants.number_noun word.now) }
+{
+    match numbers(alloc, word) {
+        Ok(Some(numbers)) => integers(alloc, numbers),
+        Ok(None) => Ok(None),
+        Err(NoMemory) => Err(NoMemory),
+    }
+}
+
+// The characters between the quotes of a word.
+fn characters(alloc: Global, inside: &[u8]) -> Result<Vec<u8>, NoMemory>
+    ensures { IfOk result (λ bytes. bytes.items ≡ constants.characters false inside.now) }
+{
+    let mut bytes = Vec::new(alloc);
+    let mut doubled = false;
+    for &byte in inside {
+        if doubled {
+            doubled = false;
+        } else {
+            if bytes.push(byte).is_err() {
+                return Err(NoMemory);
+            }
+            doubled = byte == b'\'';
+        }
+    }
+    Ok(bytes)
+}
+
+fn text_shape(alloc: Global, bytes: &[u8]) -> Result<Vec<u64>, NoMemory>
+    ensures { IfOk result (λ shape. shape.items ≡ constants.text_shape bytes.now) }
+{
+    if bytes.len() == 1 {
+        return Ok(Vec::new(alloc));
+    }
+    match Vec::from_slice(alloc, &[bytes.len() as u64]) {
+        Ok(shape) => Ok(shape),
+        Err(_) => Err(NoMemory),
+    }
+}
+
+// What stands between the first byte and the last.
+fn inside(word: &[u8]) -> &[u8]
+    ensures { result.now ≡ constants.inside word.now }
+{
+    if word.len() < 2 {
+        return &[];
+    }
+    &word[1..word.len() - 1]
+}
+
+/// The noun of a quoted text.
+pub(crate) fn text_noun(alloc: Global, word: &[u8]) -> Result<Option<Array>, NoMemory>
+    ensures { IfOk result (λ noun. noun ≡ constants.text_noun word.now) }
+{
+    let Ok(bytes) = characters(alloc, inside(word)) else {
+        return Err(NoMemory);
+    };
+    match text_shape(alloc, &bytes) {
+        Ok(shape) => Ok(array(shape, Leaves::Char(Bytes::of(bytes)))),
+        Err(NoMemory) => Err(NoMemory),
+    }
+}

@@ -1,0 +1,11 @@
+//! How an evaluation ends without a value.
+
+use jdata::Fault;
+use juses::Halt;
+
+/// Why there is no value.
+#[derive(Clone, Copy, Debug, PartialEq, Eq)]
+pub enum EvalEnd {
+    Fault(Fault),
+    Halt(Halt),
+}

@@ -1,0 +1,5 @@
+pub mod Endings
+pub mod Papers
+pub mod Programs
+pub mod Sessions
+pub mod Pieces

@@ -1,0 +1,57 @@
+-- Programs that are run one after another.
+use Rattle.std.proofs.Common.{◌≡◌, ℕ, List, [], ◌∷◌, ◌++◌, Result, Ok, Err, refl, ap, subst}
+use Rattle.juses.specs.Program.{Program, Return, Ask, ◌>>=◌, Ends, Begins}
+use Rattle.juses.specs.OldestFirst.{AllOf, exchanges}
+use Rattle.juses.specs.declared.uses.Entry.{Entry}
+use Rattle.juses.specs.declared.uses.Halt.{Halt}
+use Rattle.juses.specs.declared.uses.Reply.{Reply}
+use Rattle.juses.specs.declared.uses.Use.{Use}
+use Rattle.jeval.specs.Made.{Comes}
+
+module _ {A B : Type 0} (f : A → B) where
+  pub ends_map : (p : Program Use Reply A) (es : List (Use × Reply)) (a : A) → Ends p es a → Ends (p >>= (λ x. Return (f x))) es (f a)
+  ends_map (Return x) [] a h = ap f h
+  ends_map (Return x) (e ∷ es) a h = absurd h
+  ends_map (Ask q r) [] a h = absurd h
+  ends_map (Ask q r) (e ∷ es) a h = (h.0, ends_map (r e.1) es a h.1)
+
+module _ {A B C : Type 0} (f : A → B) where
+  pub ends_on : (k : B → Program Use Reply C) (p : Program Use Reply A) (es fs : List (Use × Reply)) (b : B) (c : C) → Ends (p >>= (λ x. Return (f x))) es b → Ends (k b) fs c → Ends (p >>= (λ x. k (f x))) (es ++ fs) c
+  ends_on k (Return x) [] fs b c h m = subst (λ y. Ends (k y) fs c) h m
+  ends_on k (Return x) (e ∷ es) fs b c h m = absurd h
+  ends_on k (Ask q r) [] fs b c h m = absurd h
+  ends_on k (Ask q r) (e ∷ es) fs b c h m = (h.0, ends_on k (r e.1) es fs b c h.1 m)
+
+  pub begins_after : (k : B → Program Use Reply C) (p : Program Use Reply A) (es fs : List (Use × Reply)) (b : B) → Ends (p >>= (λ x. Return (f x))) es b → Begins (k b) fs → Begins (p >>= (λ x. k (f x))) (es ++ fs)
+  begins_after k (Return x) [] fs b h m = subst (λ y. Begins (k y) fs) h m
+  begins_after k (Return x) (e ∷ es) fs b h m = absurd h
+  begins_after k (Ask q r) [] fs b h m = absurd h
+  begins_after k (Ask q r) (e ∷ es) fs b h m = (h.0, begins_after k (r e.1) es fs b h.1 m)
+
+  pub begins_of : (k : B → Program Use Reply C) (p : Program Use Reply A) (es : List (Use × Reply)) → Begins (p >>= (λ x. Return (f x))) es → Begins (p >>= (λ x. k (f x))) es
+  begins_of k p [] h = tt
+  begins_of k (Return x) (e ∷ es) h = absurd h
+  begins_of k (Ask q r) (e ∷ es) h = (h.0, begins_of k (r e.1) es h.1)
+
+module _ {A B : Type 0} (f : A → Program Use Reply B) where
+  pub begins_bind : (p : Program Use Reply A) (es : List (Use × Reply)) → Begins p es → Begins (p >>= f) es
+  begins_bind p [] h = tt
+  begins_bind (Return x) (e ∷ es) h = absurd h
+  begins_bind (Ask q r) (e ∷ es) h = (h.0, begins_bind (r e.1) es h.1)
+
+pub ends_begins : {A : Type 0} (p : Program Use Reply A) (es : List (Use × Reply)) (a : A) → Ends p es a → Begins p es
+ends_begins p [] a h = tt
+ends_begins (Return x) (e ∷ es) a h = absurd h
+ends_begins (Ask q r) (e ∷ es) a h = (h.0, ends_begins (r e.1) es a h.1)
+
+pub comes_begins : {A : Type 0} (p : Program Use Reply A) (es : List (Use × Reply)) (r : Result A Halt) → Comes p es r → Begins p es
+comes_begins p es (Ok a) h = ends_begins p es a h
+comes_begins p es (Err halt) h = h
+
+pub both_of : (who : List ℕ) (es fs : List Entry) → AllOf who es → AllOf who fs → AllOf who (es ++ fs)
+both_of who [] fs h k = k
+both_of who (e ∷ es) fs h k = (h.0, both_of who es fs h.1 k)
+
+pub exchanged : (es fs : List Entry) → exchanges (es ++ fs) ≡ exchanges es ++ exchanges fs
+exchanged [] fs = refl
+exchanged (e ∷ es) fs = ap (λ l. (e.asked, e.reply) ∷ l) (exchanged es fs)

@@ -1,0 +1,12 @@
+use Rattle.std.proofs.Common.{◌≡◌, ◌≤◌, false, length, drop}
+use Rattle.jsession.specs.Items.{has_end}
+use Rattle.jsession.proofs.items.ended.Given as goal
+
+abbrev pub invariant-loop-end : goal.invariant-loop-end
+invariant-loop-end l = record {
+  within : l.«end» ≤ length l.bytes;
+  none : has_end (drop l.«end» l.bytes) ≡ false;
+}
+
+abbrev pub decreases-loop-end : goal.decreases-loop-end
+decreases-loop-end l = l.«end»

@@ -1,0 +1,5 @@
+pub mod Items
+pub mod Script
+pub mod Reads
+pub mod Ran
+pub mod Sessions
