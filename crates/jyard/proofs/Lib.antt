@@ -12,4 +12,6 @@ pub mod Strips
 pub mod Laying
 pub mod Sent
 pub mod Crossing
-pub mod Rights
+pub mod Blanks
+pub mod Fillings
+pub mod Layouts

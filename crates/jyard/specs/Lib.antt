@@ -6,3 +6,4 @@ pub mod Sole
 pub mod Seats
 pub mod Gathering
 pub mod Reads
+pub mod Grounds

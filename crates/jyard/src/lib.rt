@@ -3,12 +3,12 @@
 
 mod gathered;
 mod gathered_calls;
+mod ground;
 mod hold;
 mod hold_calls;
 mod lends;
 mod rows;
 mod seats;
-mod send_lease;
 mod shelf;
 mod strip;
 mod table;

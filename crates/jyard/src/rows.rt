@@ -1,70 +1,35 @@
-// Rows of places from the allocator, filled, and what a row of words tells.
-ghost use Rattle.std.specs.Prelude.{◌≡◌, ◌≢◌, [], false, length, replicate, IfOk, IfErr, IsTrue, None};
-ghost use Rattle.core.specs.Mem.Slots.{slots_items, slots_ptr, slots_len, lease_ptr, lease_len, lease_heap, IsFull};
+// Rows of places, filled, and what a row of words tells.
+ghost use Rattle.std.specs.Prelude.{◌≡◌, ◌≢◌, false, replicate, IsTrue, None};
+ghost use Rattle.core.specs.Mem.Slots.{slots_items, slots_len, IsFull};
 
-use core::slots::{Lease, Slots, release, reserve};
-use std::alloc::{AllocError, AllocFailed, Global};
+use crate::ground::Blank;
+use crate::strip::Strip;
+use core::slots::Slots;
 
-pub(crate) struct Row<T> {
-    pub(crate) slots: Slots<T>,
-    pub(crate) lease: Lease<T, Global>,
-    ghost full: { IsFull slots },
-    ghost leased: { (lease_ptr lease ≡ slots_ptr slots) × (lease_len lease ≡ slots_len slots) },
-}
-
-fn fill<T>(row: &mut Slots<T>, mut values: Vec<T>)
-    requires { slots_len row.old ≡ length values.items }
-    ensures { IsFull row.new × (slots_items row.new ≡ values.items) × (slots_ptr row.new ≡ slots_ptr row.old) × (slots_len row.new ≡ slots_len row.old) }
+pub(crate) fn zeros(places: Blank<u64>, count: usize) -> Strip<u64>
+    requires { count ≡ places.count }
+    ensures { (result.items ≡ replicate count 0) × (result.ptr ≡ places.ptr) }
 {
-    while let Some(x) = values.pop() {
-        row.put(values.len(), x);
-    }
-    values.destroy_empty();
-}
-
-/// A row with these values, or the values back.
-pub(crate) fn row_of<T>(alloc: Global, values: Vec<T>) -> Result<Row<T>, Vec<T>>
-    ensures ok { IfOk result (λ r. (slots_items r.slots ≡ values.items) × (lease_heap r.lease ≡ alloc)) }
-    ensures err { IfErr result (λ v. v.items ≡ values.items) }
-{
-    let Ok((mut slots, lease)) = (unsafe { reserve(&alloc, values.as_slice()) }) else {
-        return Err(values);
-    };
-    fill(&mut slots, values);
-    Ok(Row { slots, lease })
-}
-
-pub(crate) fn give_back<T>(alloc: Global, row: Row<T>)
-    requires { lease_heap row.lease ≡ alloc }
-{
-    let Row { slots, lease } = row;
-    release(&alloc, slots, lease);
-}
-
-pub(crate) fn discard<T>(mut values: Vec<Option<T>>)
-    requires { values.items ≡ replicate (length values.items) None }
-{
-    while let Some(x) = values.pop() {
-        let None = x else { unreachable!() };
-    }
-    values.destroy_empty();
-}
-
-pub(crate) fn nones<T>(alloc: Global, count: usize) -> Result<Vec<Option<T>>, AllocError>
-    ensures { IfOk result (λ v. v.items ≡ replicate count None) }
-{
-    let mut values = Vec::with_capacity(alloc, count)?;
+    let mut row = places.into_slots(count);
     let mut i = 0;
     while i < count {
-        if let Err(failed) = values.push(None) {
-            let AllocFailed { value } = failed;
-            let None = value else { unreachable!() };
-            discard(values);
-            return Err(AllocError);
-        }
+        row.put(i, 0);
         i += 1;
     }
-    Ok(values)
+    Strip::of(row)
+}
+
+pub(crate) fn nones<T>(places: Blank<Option<T>>, count: usize) -> Strip<Option<T>>
+    requires { count ≡ places.count }
+    ensures { (result.items ≡ replicate count None) × (result.ptr ≡ places.ptr) }
+{
+    let mut row = places.into_slots(count);
+    let mut i = 0;
+    while i < count {
+        row.put(i, None);
+        i += 1;
+    }
+    Strip::of(row)
 }
 
 /// Whether all words are 0.

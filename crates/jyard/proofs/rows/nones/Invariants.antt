@@ -1,8 +1,10 @@
-use Rattle.std.proofs.Common.{◌≡◌, ◌-◌, ◌≤◌, replicate, None}
+use Rattle.std.proofs.Common.{◌≡◌, ℕ, ◌-◌, ◌<◌, ◌≤◌, slice_index_or, None}
+use Rattle.core.specs.Mem.Slots.{slots_items, slots_filled, slots_ptr, slots_len}
+use Rattle.core.specs.Mem.Slots.Ownership.{Filled}
 use Rattle.jyard.proofs.rows.nones.Given as goal
 
 abbrev pub invariant-loop-i : goal.invariant-loop-i
-invariant-loop-i g l = (l.i ≤ l.count) × (l.values.items ≡ replicate l.i None)
+invariant-loop-i g l = (l.i ≤ l.count) × (slots_len l.row ≡ l.count) × (slots_ptr l.row ≡ l.fn.places.ptr) × Filled (slots_filled l.row) 0 l.i × ((k : ℕ) → k < l.i → slice_index_or (slots_items l.row) k None ≡ None)
 
 abbrev pub decreases-loop-i : goal.decreases-loop-i
 decreases-loop-i g l = l.count - l.i
