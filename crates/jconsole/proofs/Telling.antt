@@ -5,38 +5,34 @@ use Rattle.std.specs.Io.{StartsWith}
 use Rattle.std.specs.Io.KnownBytes.{Appends, Consumes, IsAtEnd}
 use Rattle.jeval.specs.Session.{Session}
 use Rattle.jeval.specs.declared.state.State.{State}
-use Rattle.jio.specs.Sink.{TookPart}
+use Rattle.jio.specs.Counts.{Rises}
 use Rattle.jsession.specs.Items.{sentences, ended, items_of}
+use Rattle.jsession.specs.Broke.{Answer, Broke, Went}
 use Rattle.jsession.specs.Ran.{Paper, Ran, final}
 use Rattle.jsession.specs.Reads.{Side, IsRead}
-use Rattle.jsession.specs.Script.{script}
 use Rattle.jsession.specs.Sessions.{SessionRan}
 use Rattle.jsession.specs.declared.reading.Reading.{Reading}
 use Rattle.jsession.specs.declared.reading.Reading.TheVariants as how
 use Rattle.jsession.specs.declared.status.Status.{Status}
 use Rattle.jsession.specs.declared.status.Status.TheVariants as status
 use Rattle.jsession.proofs.Programs.{ends_begins}
-use Rattle.jsession.proofs.Papers.{took_all}
-use Rattle.jsession.proofs.Sessions.{ill}
+use Rattle.jsession.proofs.Papers.{took_all, nothing_appended}
 use Rattle.juses.specs.Keeping.{first_kept}
 use Rattle.juses.specs.Leading.{Leads}
 use Rattle.juses.specs.OldestFirst.{exchanges}
 use Rattle.juses.specs.Standing.{Kept}
+use Rattle.juses.proofs.Runs.{whole_run}
 use Rattle.juses.specs.declared.uses.Entry.{Entry}
-use Rattle.jconsole.specs.Session.{main_program, WroteRun, WrotePart, AreItems, IsFront, Told, GivesWhatIsLeft}
-use Rattle.jconsole.proofs.Solos.{part_of, whole_of}
-
-nothing_appended : (took : Option (List ℕ)) → Appends took took []
-nothing_appended None = tt
-nothing_appended (Some bytes) = sym (append-nil bytes)
+use Rattle.jconsole.specs.Session.{main_program, WroteRun, WroteSome, AreItems, IsFront, Told, GivesWhatIsLeft}
+use Rattle.jconsole.proofs.Solos.{part_of, whole_of, all_of, some_of}
 
 -- nothing was read, run or written
 pub nothing_told : (source source' : Side) (sink : Paper) → Told source source' sink sink status.NoMemory
 nothing_told source source' sink = told source.left
   where
-    told : (left : Option (List ℕ)) → IfSome left (λ script. (items : List (List ℕ)) × AreItems script source'.left items × WrotePart sink.took sink.took items)
+    told : (left : Option (List ℕ)) → IfSome left (λ script. (items : List (List ℕ)) × AreItems script source'.left items × WroteSome sink.took sink.took items)
     told None = tt
-    told (Some script) = ([], inr ([], refl, refl), ([], tt, tt, ([], refl, nothing_appended sink.took)))
+    told (Some script) = ([], inr ([], refl, refl), (([], tt, tt, ([], refl, nothing_appended sink.took)), all_of sink.took sink.took [] ([], whole_run (main_program []) 0 [] tt tt refl, nothing_appended sink.took)))
 
 pub gives_nothing : (source : Side) → GivesWhatIsLeft source source
 gives_nothing source = given source.left
@@ -90,55 +86,55 @@ items_read source source' how.Long bytes script is read =
     let Q : List ℕ → Type 0 = λ zs. Consumes source.left source'.left zs in
     inr (bytes, starts source'.left script bytes (last ∷ []) (subst P is (subst Q read.reason.1 read.consumed)), refl)
 
-part_told : (source source' : Side) (how : Reading) (bytes : List ℕ) (took took' : Option (List ℕ)) → IsRead source source' how bytes → WrotePart took took' (items_of how bytes)
-    → IfSome source.left (λ script. (items : List (List ℕ)) × AreItems script source'.left items × WrotePart took took' items)
+part_told : (source source' : Side) (how : Reading) (bytes : List ℕ) (took took' : Option (List ℕ)) → IsRead source source' how bytes → WroteSome took took' (items_of how bytes)
+    → IfSome source.left (λ script. (items : List (List ℕ)) × AreItems script source'.left items × WroteSome took took' items)
 part_told source source' how bytes took took' read wrote = told source.left refl
   where
-    told : (left : Option (List ℕ)) → source.left ≡ left → IfSome left (λ script. (items : List (List ℕ)) × AreItems script source'.left items × WrotePart took took' items)
+    told : (left : Option (List ℕ)) → source.left ≡ left → IfSome left (λ script. (items : List (List ℕ)) × AreItems script source'.left items × WroteSome took took' items)
     told None is = tt
     told (Some script) is = (items_of how bytes, items_read source source' how bytes script is read, wrote)
 
-module _ (source source' : Side) (sink sink' : Paper) (old new : Session Kept) (first : old.uses ≡ first_kept 0) (state : old.state ≡ record { left = 10000000 }) (turns : old.turns ≡ 10000000) where
-  main_ran : (items : List (List ℕ)) (answer : Result (Unit {0}) Status) → Ran Leads old.uses new.uses (script old.turns items old.state) new.state sink sink' answer
-      → Ran Leads (first_kept 0) new.uses (main_program items) new.state sink sink' answer
-  main_ran items answer ran = rw (sym first, sym state, sym turns) ran
+rises_on : (mid old new : ℕ) → mid ≡ old → Rises mid new → Rises old new
+rises_on mid old new same more = let P : ℕ → Type 0 = λ n. Rises n new in subst P same more
 
+module _ (source source' : Side) (sink sink' : Paper) (old new : Session Kept) (first : old.uses ≡ first_kept 0) (state : old.state ≡ record { left = 10000000 }) (turns : old.turns ≡ 10000000) where
   told_well : (how : Reading) (bytes : List ℕ) (done : Unit {0}) → IsRead source source' how bytes → Ran Leads (first_kept 0) new.uses (main_program (items_of how bytes)) new.state sink sink' (Ok done)
       → new.uses.waiting ≡ [] → Told source source' sink sink' (final how (Ok done))
   told_well how.Whole bytes done read ran out =
-      let wrote = whole_of new.uses ran.entries ran.bytes ran.all_main ran.led (sentences bytes) sink.took sink'.took new.state ran.comes (ends_begins (main_program (sentences bytes)) (exchanges ran.entries) new.state ran.comes) out ran.wrote.0 in
+      let wrote = whole_of new.uses ran.entries ran.bytes ran.all_main ran.led (sentences bytes) sink.took sink'.took new.state ran.comes out ran.wrote.0 in
       let P : List ℕ → Type 0 = λ zs. WroteRun sink.took sink'.took (sentences zs) in
       (all_given source.left source'.left read.all P read.consumed read.reason.1 (subst P read.reason.0 wrote), read.reason.1, read.reason.2, ran.wrote.2)
   told_well how.Broken bytes done read ran out =
-      let wrote = whole_of new.uses ran.entries ran.bytes ran.all_main ran.led (sentences (ended bytes)) sink.took sink'.took new.state ran.comes (ends_begins (main_program (sentences (ended bytes))) (exchanges ran.entries) new.state ran.comes) out ran.wrote.0 in
+      let wrote = whole_of new.uses ran.entries ran.bytes ran.all_main ran.led (sentences (ended bytes)) sink.took sink'.took new.state ran.comes out ran.wrote.0 in
       let Q : List ℕ → Type 0 = λ zs. Consumes source.left source'.left zs in
       (front_given source.left source'.left bytes (λ front. WroteRun sink.took sink'.took (sentences (ended front))) (subst Q (sym read.reason.0) read.consumed) wrote, read.reason.1, read.reason.2, ran.wrote.2)
   told_well how.Long bytes done read ran out =
-      let wrote = whole_of new.uses ran.entries ran.bytes ran.all_main ran.led (sentences (ended bytes)) sink.took sink'.took new.state ran.comes (ends_begins (main_program (sentences (ended bytes))) (exchanges ran.entries) new.state ran.comes) out ran.wrote.0 in
+      let wrote = whole_of new.uses ran.entries ran.bytes ran.all_main ran.led (sentences (ended bytes)) sink.took sink'.took new.state ran.comes out ran.wrote.0 in
       let Q : List ℕ → Type 0 = λ zs. Consumes source.left source'.left zs in
       (long_given source.left source'.left bytes read.reason.0 (λ front. WroteRun sink.took sink'.took (sentences (ended front))) (subst Q read.reason.1 read.consumed) read.reason.2 wrote, read.reason.3, ran.wrote.2)
   told_well how.Short bytes done read ran out =
-      part_told source source' how.Short bytes sink.took sink'.took read
-      (part_of new.uses ran.entries ran.bytes ran.all_main ran.led [] sink.took sink'.took (ends_begins (main_program []) (exchanges ran.entries) new.state ran.comes) (took_all sink.took sink'.took ran.bytes ran.wrote.0))
+      let begun = ends_begins (main_program []) (exchanges ran.entries) new.state ran.comes in
+      let part = part_of new.uses ran.entries ran.bytes ran.all_main ran.led [] sink.took sink'.took begun (took_all sink.took sink'.took ran.bytes ran.wrote.0) in
+      let whole = whole_of new.uses ran.entries ran.bytes ran.all_main ran.led [] sink.took sink'.took new.state ran.comes out ran.wrote.0 in
+      part_told source source' how.Short bytes sink.took sink'.took read (part, all_of sink.took sink'.took [] whole)
 
-  told_ill : (how : Reading) (bytes : List ℕ) (why : Status) → IsRead source source' how bytes → Ran Leads (first_kept 0) new.uses (main_program (items_of how bytes)) new.state sink sink' (ill why)
+  told_ill : (how : Reading) (bytes : List ℕ) (why : Status) → IsRead source source' how bytes → Broke Leads (λ d. d.waiting ≡ []) 10000000 (first_kept 0) new.uses (items_of how bytes) (record { left = 10000000 }) new.state sink sink' why
       → Told source source' sink sink' why
-  told_ill how bytes status.WriteFault read ran =
-      (part_told source source' how bytes sink.took sink'.took read (part_of new.uses ran.entries ran.bytes ran.all_main ran.led (items_of how bytes) sink.took sink'.took ran.comes ran.wrote.0), ran.wrote.1)
-  told_ill how bytes status.NoMemory read ran =
-      part_told source source' how bytes sink.took sink'.took read (part_of new.uses ran.entries ran.bytes ran.all_main ran.led (items_of how bytes) sink.took sink'.took ran.comes ran.wrote)
-  told_ill how bytes status.Done read ran = absurd ran.wrote
-  told_ill how bytes status.Usage read ran = absurd ran.wrote
-  told_ill how bytes status.ReadFault read ran = absurd ran.wrote
-  told_ill how bytes status.TooLong read ran = absurd ran.wrote
+  told_ill how bytes status.WriteFault read b =
+      (part_told source source' how bytes sink.took sink'.took read (some_of new.uses (items_of how bytes) new.state sink sink' status.WriteFault b), rises_on b.sheet.faults sink.faults sink'.faults b.ran.wrote.1 b.broke.wrote.1)
+  told_ill how bytes status.NoMemory read b = part_told source source' how bytes sink.took sink'.took read (some_of new.uses (items_of how bytes) new.state sink sink' status.NoMemory b)
+  told_ill how bytes status.Done read b = absurd b.broke.wrote
+  told_ill how bytes status.Usage read b = absurd b.broke.wrote
+  told_ill how bytes status.ReadFault read b = absurd b.broke.wrote
+  told_ill how bytes status.TooLong read b = absurd b.broke.wrote
 
-  told_by : (how : Reading) (bytes : List ℕ) (answer : Result (Unit {0}) Status) → IsRead source source' how bytes → Ran Leads old.uses new.uses (script old.turns (items_of how bytes) old.state) new.state sink sink' answer
-      → OnOk answer (new.uses.waiting ≡ []) → Told source source' sink sink' (final how answer)
-  told_by how bytes (Ok done) read ran out = told_well how bytes done read (main_ran (items_of how bytes) (Ok done) ran) out
-  told_by how bytes (Err why) read ran out = told_ill how bytes why read (main_ran (items_of how bytes) (Err why) ran)
+  told_by : (how : Reading) (bytes : List ℕ) (answer : Answer) → IsRead source source' how bytes → Went Leads (λ d. d.waiting ≡ []) old.turns old.uses new.uses (items_of how bytes) old.state new.state sink sink' answer
+      → Told source source' sink sink' (final how answer)
+  told_by how bytes (Ok done) read went = told_well how bytes done read (rw (sym first, sym state, sym turns) went.0) went.1
+  told_by how bytes (Err why) read went = told_ill how bytes why read (rw (sym first, sym state, sym turns) went)
 
   pub told : (status : Status) → SessionRan Leads (λ d. d.waiting ≡ []) old new source source' sink sink' status → Told source source' sink sink' status
-  told status s = let P : Status → Type 0 = λ t. Told source source' sink sink' t in subst P (sym s.ends) (told_by s.how s.bytes s.answer s.read s.ran s.all_out)
+  told status s = let P : Status → Type 0 = λ t. Told source source' sink sink' t in subst P (sym s.ends) (told_by s.how s.bytes s.answer s.read s.went)
 
 pub session_gives : {S : Type 0} (leads : S → List Entry → List ℕ → S → Type 0) (drained : S → Type 0) (old new : Session S) (source source' : Side) (sink sink' : Paper) (status : Status)
     → SessionRan leads drained old new source source' sink sink' status → GivesWhatIsLeft source source'

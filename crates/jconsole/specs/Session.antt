@@ -11,7 +11,7 @@ use Rattle.jsession.specs.Reads.{Side, ReadPastLimit}
 use Rattle.jsession.specs.Script.{script_of}
 use Rattle.jsession.specs.declared.status.Status.{Status}
 use Rattle.jsession.specs.declared.status.Status.TheVariants as status
-use Rattle.juses.specs.Histories.{Legal, Faithful, OneThreadRun, prints}
+use Rattle.juses.specs.Histories.{Legal, Faithful, Once, OneThreadRun, prints}
 use Rattle.juses.specs.Program.{Program}
 use Rattle.juses.specs.declared.uses.Entry.{Entry}
 use Rattle.juses.specs.declared.uses.Reply.{Reply}
@@ -28,6 +28,30 @@ WroteRun took took' items = (h : List Entry) × OneThreadRun (main_program items
 -- the sink took a beginning of the prints of a history that the sentences and the desk make so far
 abbrev pub WrotePart : (took took' : Option (List ℕ)) → List (List ℕ) → Type 0
 WrotePart took took' items = (h : List Entry) × Legal 0 h × Faithful (main_program items) h × TookPart took took' (prints h)
+
+-- where the session broke off: the prints of the one-thread run of the first sentences were written, and a beginning of
+-- what the history has printed since, which is that of these sentences and of the one in progress, if there was one
+pub record BrokeOff (took took' : Option (List ℕ)) (items : List (List ℕ)) : Type 0 where
+  pub first : List (List ℕ)
+  pub now : List (List ℕ)
+  pub later : List (List ℕ)
+  pub split : items ≡ first ++ (now ++ later)
+  pub one : length now ≤ 1
+  pub run : List Entry
+  pub is_run : OneThreadRun (main_program first) 0 run
+  pub history : List Entry
+  pub legal : Legal 0 history
+  pub faithful : Faithful (main_program (first ++ now)) history
+  pub since : Once run history
+  pub late : List ℕ
+  pub printed : prints history ≡ prints run ++ late
+  pub between : Option (List ℕ)
+  pub whole : Appends took between (prints run)
+  pub part : TookPart between took' late
+
+-- what a session that broke off wrote
+abbrev pub WroteSome : (took took' : Option (List ℕ)) → List (List ℕ) → Type 0
+WroteSome took took' items = WrotePart took took' items × BrokeOff took took' items
 
 -- the bytes at the front of the script that were read
 abbrev pub IsFront : List ℕ → Option (List ℕ) → List ℕ → Type 0
@@ -50,9 +74,9 @@ Told source source' sink sink' status.TooLong =
     × WroteRun sink.took sink'.took (sentences (ended front)))
     × ReadPastLimit source.given source'.given × (sink'.whole ≡ sink.whole)
 Told source source' sink sink' status.WriteFault =
-    IfSome source.left (λ script. (items : List (List ℕ)) × AreItems script source'.left items × WrotePart sink.took sink'.took items) × Rises sink.faults sink'.faults
+    IfSome source.left (λ script. (items : List (List ℕ)) × AreItems script source'.left items × WroteSome sink.took sink'.took items) × Rises sink.faults sink'.faults
 Told source source' sink sink' status.NoMemory =
-    IfSome source.left (λ script. (items : List (List ℕ)) × AreItems script source'.left items × WrotePart sink.took sink'.took items)
+    IfSome source.left (λ script. (items : List (List ℕ)) × AreItems script source'.left items × WroteSome sink.took sink'.took items)
 Told source source' sink sink' status.Usage = ⊥
 
 -- no more bytes were given than were left

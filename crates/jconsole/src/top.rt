@@ -5,7 +5,7 @@ ghost use Rattle.jio.specs.Counts.{Rises};
 ghost use Rattle.jsession.specs.Items.{sentences, ended};
 ghost use Rattle.jsession.specs.Reads.{ReadPastLimit};
 ghost use Rattle.jsession.specs.declared.status.Status.TheVariants as status;
-ghost use Rattle.jconsole.specs.Session.{WroteRun, WrotePart, IsFront, AreItems};
+ghost use Rattle.jconsole.specs.Session.{WroteRun, WroteSome, IsFront, AreItems};
 
 use crate::outcome::Outcome;
 use crate::session::session;
@@ -37,11 +37,12 @@ pub fn run_solo<S: Source, K: Sink>(
     ensures long { result.status ≡ status.TooLong → IfSome (S.left script.old) (λ bytes. (front : List ℕ) × (last : ℕ) × (length front ≡ 16777216) ×
         IsFront bytes (S.left script.new) (front ++ last ∷ []) × WroteRun (K.took out.old) (K.took out.new) (sentences (ended front))) }
 
-    // A failed write, or want of memory, leaves a beginning of the prints of a history of the items.
+    // A failed write, or want of memory, leaves a beginning of the prints of a history of the items: all that the
+    // sentences before printed, and of the sentence in progress perhaps a part.
     ensures write_fault { result.status ≡ status.WriteFault → IfSome (S.left script.old) (λ bytes. (items : List (List ℕ)) ×
-        AreItems bytes (S.left script.new) items × WrotePart (K.took out.old) (K.took out.new) items) }
+        AreItems bytes (S.left script.new) items × WroteSome (K.took out.old) (K.took out.new) items) }
     ensures no_memory { result.status ≡ status.NoMemory → IfSome (S.left script.old) (λ bytes. (items : List (List ℕ)) ×
-        AreItems bytes (S.left script.new) items × WrotePart (K.took out.old) (K.took out.new) items) }
+        AreItems bytes (S.left script.new) items × WroteSome (K.took out.old) (K.took out.new) items) }
 
     // Each write was answered All, but for a failed one and want of memory.
     ensures whole { result.status ≢ status.WriteFault → result.status ≢ status.NoMemory → K.whole out.new ≡ K.whole out.old }

@@ -44,14 +44,14 @@ pub(crate) fn take_turn(state: &mut State) -> bool
 
 /// One use of the activity.
 pub(crate) fn ask<U: Uses>(uses: &mut U, who: Path, asked: Use) -> Result<Reply, Halt>
-    ensures { Runs U.leads who uses.old uses.new (Ask asked Return) result }
+    ensures { Runs U.leads U.refuses who uses.old uses.new (Ask asked Return) result }
 {
     uses.call(who, asked)
 }
 
 /// One use whose reply says nothing.
 pub(crate) fn tell<U: Uses>(uses: &mut U, who: Path, asked: Use) -> Result<(), Halt>
-    ensures { Runs U.leads who uses.old uses.new (Ask asked (λ reply. Return tt)) result }
+    ensures { Runs U.leads U.refuses who uses.old uses.new (Ask asked (λ reply. Return tt)) result }
 {
     match ask(uses, who, asked) {
         Ok(_) => Ok(()),
@@ -69,7 +69,7 @@ pub(crate) fn base(alloc: Global) -> Result<Name, NoMemory>
 
 /// Looks a name up.
 pub(crate) fn read<U: Uses>(uses: &mut U, by: &Activity, name: Name) -> Result<Reply, Halt>
-    ensures { Runs U.leads by.now.who uses.old uses.new (Ask (asked.Read base_locale name) Return) result }
+    ensures { Runs U.leads U.refuses by.now.who uses.old uses.new (Ask (asked.Read base_locale name) Return) result }
 {
     match base(by.alloc) {
         Ok(from) => ask(uses, by.who, Use::Read { from, name }),
@@ -91,7 +91,7 @@ fn verb_in(reply: Reply) -> Result<Term, Fault>
 
 // The verb that a name has as its value now.
 fn sought<U: Uses>(uses: &mut U, by: &Activity, name: Name) -> Result<Term, EvalEnd>
-    ensures { (s : State) → Makes U.leads by.now.who uses.old uses.new (applying.sought name s) result s }
+    ensures { (s : State) → Makes U.leads U.refuses by.now.who uses.old uses.new (applying.sought name s) result s }
 {
     match read(uses, by, name) {
         Ok(reply) => match verb_in(reply) {
@@ -104,7 +104,7 @@ fn sought<U: Uses>(uses: &mut U, by: &Activity, name: Name) -> Result<Term, Eval
 
 // The verb that a reference stands for now.
 fn referred<U: Uses>(uses: &mut U, by: &Activity, reference: Locative) -> Result<Term, EvalEnd>
-    ensures { (s : State) → Makes U.leads by.now.who uses.old uses.new (applying.referred reference s) result s }
+    ensures { (s : State) → Makes U.leads U.refuses by.now.who uses.old uses.new (applying.referred reference s) result s }
 {
     let Locative { name, place } = reference;
     match place {
@@ -123,7 +123,7 @@ pub(crate) fn apply<U: Uses>(
     x: Option<Array>,
     y: Array,
 ) -> Result<Array, EvalEnd>
-    ensures makes { Makes U.leads by.now.who uses.old uses.new (applying.applied levels verb x y state.old) result state.new }
+    ensures makes { Makes U.leads U.refuses by.now.who uses.old uses.new (applying.applied levels verb x y state.old) result state.new }
     ensures turns { state.new.left ≤ state.old.left }
 {
     match verb {

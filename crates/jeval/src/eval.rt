@@ -3,8 +3,10 @@ ghost use Rattle.std.specs.Prelude.{◌≡◌, [], length, IfOk, IfErr};
 ghost use Rattle.juses.specs.Program.{Ask, Return};
 ghost use Rattle.jeval.specs.Applying.{applied, most_levels};
 ghost use Rattle.jeval.specs.Built.{queue_of};
-ghost use Rattle.jeval.specs.Made.{Runs, Makes, beside};
+ghost use Rattle.jeval.specs.Made.{Refused, Runs, Makes, ClosedAt, ClosedAtEnd, beside};
 ghost use Rattle.jeval.specs.Showing as showing;
+ghost use Rattle.juses.specs.declared.uses.Cause.{Cause};
+ghost use Rattle.juses.specs.declared.uses.Halt.TheVariants as halt;
 ghost use Rattle.jeval.specs.declared.eval.Shown.TheVariants as shown;
 ghost use Rattle.jeval.specs.declared.state.State.{State};
 
@@ -43,7 +45,7 @@ fn run_words<U: Uses>(
     line: &[u8],
     words: &[Word],
 ) -> Result<Option<Bytes>, EvalEnd>
-    ensures { Makes U.leads by.now.who uses.old uses.new (showing.run_queue (queue_of line.now words.now) state.old) result state.new }
+    ensures { Makes U.leads U.refuses by.now.who uses.old uses.new (showing.run_queue (queue_of line.now words.now) state.old) result state.new }
 {
     let Ok(waiting) = queue(by.alloc, line, words) else {
         return Err(NO_MEMORY);
@@ -75,7 +77,7 @@ fn run_line<U: Uses>(
     state: &mut State,
     line: &[u8],
 ) -> Result<Option<Bytes>, EvalEnd>
-    ensures { Makes U.leads by.now.who uses.old uses.new (showing.run_line line.now state.old) result state.new }
+    ensures { Makes U.leads U.refuses by.now.who uses.old uses.new (showing.run_line line.now state.old) result state.new }
 {
     if line.len() > LINE_LIMIT {
         return Err(EvalEnd::Fault(Fault::Limit));
@@ -88,7 +90,7 @@ fn run_line<U: Uses>(
 
 // Prints, and says what was printed.
 fn print<U: Uses>(uses: &mut U, by: &Activity, bytes: Bytes, shown: Shown) -> Result<Shown, Halt>
-    ensures { (s : State) → Runs U.leads by.now.who uses.old uses.new (showing.prints bytes shown s) (beside result s) }
+    ensures { (s : State) → Runs U.leads U.refuses by.now.who uses.old uses.new (showing.prints bytes shown s) (beside result s) }
 {
     match tell(uses, by.who, Use::Print { bytes }) {
         Ok(()) => Ok(shown),
@@ -102,7 +104,7 @@ fn print_fault<U: Uses>(
     line: &[u8],
     fault: Fault,
 ) -> Result<Shown, Halt>
-    ensures { (s : State) → Runs U.leads by.now.who uses.old uses.new (showing.prints (showing.fault_lines fault line.now) (shown.Faulted fault) s) (beside result s) }
+    ensures { (s : State) → Runs U.leads U.refuses by.now.who uses.old uses.new (showing.prints (showing.fault_lines fault line.now) (shown.Faulted fault) s) (beside result s) }
 {
     match fault_lines(by.alloc, fault, line) {
         Ok(bytes) => print(uses, by, bytes, Shown::Faulted(fault)),
@@ -117,7 +119,7 @@ fn tell_end<U: Uses>(
     line: &[u8],
     came: Result<Option<Bytes>, Fault>,
 ) -> Result<Shown, Halt>
-    ensures { (s : State) → Runs U.leads by.now.who uses.old uses.new (showing.tells line.now (came, s)) (beside result s) }
+    ensures { (s : State) → Runs U.leads U.refuses by.now.who uses.old uses.new (showing.tells line.now (came, s)) (beside result s) }
 {
     match came {
         Ok(None) => Ok(Shown::Silent),
@@ -134,7 +136,7 @@ fn run_sentence<U: Uses>(
     state: &mut State,
     line: &[u8],
 ) -> Result<Shown, Halt>
-    ensures { Runs U.leads by.now.who uses.old uses.new (showing.sentence turns line.now state.old) (beside result state.new) }
+    ensures { Runs U.leads U.refuses by.now.who uses.old uses.new (showing.sentence turns line.now state.old) (beside result state.new) }
 {
     state.left = turns;
     match run_line(uses, by, state, line) {
@@ -146,19 +148,13 @@ fn run_sentence<U: Uses>(
 
 // Closes the session where there was no memory.
 fn close_after<U: Uses>(uses: &mut U, halt: Halt)
-    ensures { U.leads uses.old [] [] uses.new }
+    ensures leads { U.leads uses.old [] [] uses.new }
+    ensures refused { Refused U.refuses uses.old halt → Refused U.refuses uses.new halt }
+    ensures closed { ClosedAt U.refuses uses.new halt }
 {
-    if halt == Halt::NoMemory {
-        uses.close(Cause::NoMemory);
-    }
-}
-
-fn close_at<U: Uses>(uses: &mut U, end: EvalEnd)
-    ensures { U.leads uses.old [] [] uses.new }
-{
-    match end {
-        EvalEnd::Fault(_) => {}
-        EvalEnd::Halt(halt) => close_after(uses, halt),
+    match halt {
+        Halt::NoMemory => uses.close(Cause::NoMemory),
+        Halt::Wait | Halt::Closed(_) => {}
     }
 }
 
@@ -170,7 +166,8 @@ fn sentence_of<U: Uses>(
     state: &mut State,
     line: &[u8],
 ) -> Result<Shown, Halt>
-    ensures { Runs U.leads by.now.who uses.old uses.new (showing.sentence turns line.now state.old) (beside result state.new) }
+    ensures uses { Runs U.leads U.refuses by.now.who uses.old uses.new (showing.sentence turns line.now state.old) (beside result state.new) }
+    ensures closed { IfErr result (λ halt. ClosedAt U.refuses uses.new halt) }
 {
     match run_sentence(uses, by, turns, state, line) {
         Ok(shown) => Ok(shown),
@@ -190,19 +187,19 @@ fn application_of<U: Uses>(
     x: Option<Array>,
     y: Array,
 ) -> Result<Array, EvalEnd>
-    ensures { Makes U.leads by.now.who uses.old uses.new (applied most_levels verb.now x y state.old) result state.new }
+    ensures uses { Makes U.leads U.refuses by.now.who uses.old uses.new (applied most_levels verb.now x y state.old) result state.new }
+    ensures closed { IfErr result (λ end. ClosedAtEnd U.refuses uses.new end) }
 {
-    match verb.copy(by.alloc) {
-        Ok(copy) => match apply(uses, by, state, MOST_LEVELS, copy, x, y) {
-            Ok(value) => Ok(value),
-            Err(end) => {
-                close_at(uses, end);
-                Err(end)
-            }
-        },
-        Err(NoMemory) => {
-            close_after(uses, Halt::NoMemory);
-            Err(NO_MEMORY)
+    let Ok(copy) = verb.copy(by.alloc) else {
+        close_after(uses, Halt::NoMemory);
+        return Err(NO_MEMORY);
+    };
+    match apply(uses, by, state, MOST_LEVELS, copy, x, y) {
+        Ok(value) => Ok(value),
+        Err(EvalEnd::Fault(fault)) => Err(EvalEnd::Fault(fault)),
+        Err(EvalEnd::Halt(halt)) => {
+            close_after(uses, halt);
+            Err(EvalEnd::Halt(halt))
         }
     }
 }
@@ -249,7 +246,8 @@ impl<U: Uses> Eval<U> {
     /// Runs a sentence of one line, and prints its result or its fault. Want of memory closes the session.
     pub fn sentence(&mut self, lines: &[Bytes]) -> Result<Shown, Halt>
         requires { length lines.now ≡ 1 }
-        ensures uses { Runs U.leads self.old.who self.old.uses self.new.uses (showing.sentence self.old.turns (first_line lines.now) self.old.state) (beside result self.new.state) }
+        ensures uses { Runs U.leads U.refuses self.old.who self.old.uses self.new.uses (showing.sentence self.old.turns (first_line lines.now) self.old.state) (beside result self.new.state) }
+        ensures closed { IfErr result (λ halt. ClosedAt U.refuses self.new.uses halt) }
         ensures same { self.new ≡ moved_on self.old self.new.uses self.new.state }
     {
         let by = Activity {
@@ -263,7 +261,8 @@ impl<U: Uses> Eval<U> {
     /// Applies a verb to its arguments, with the turns that are left. Want of memory closes the session.
     pub fn apply(&mut self, verb: &Term, x: Option<Array>, y: Array) -> Result<Array, EvalEnd>
         requires { IsVerb verb.now }
-        ensures uses { Makes U.leads self.old.who self.old.uses self.new.uses (applied most_levels verb.now x y self.old.state) result self.new.state }
+        ensures uses { Makes U.leads U.refuses self.old.who self.old.uses self.new.uses (applied most_levels verb.now x y self.old.state) result self.new.state }
+        ensures closed { IfErr result (λ end. ClosedAtEnd U.refuses self.new.uses end) }
         ensures same { self.new ≡ moved_on self.old self.new.uses self.new.state }
     {
         let by = Activity {
@@ -275,7 +274,7 @@ impl<U: Uses> Eval<U> {
 
     /// Makes one use of the activity.
     pub fn ask(&mut self, asked: Use) -> Result<Reply, Halt>
-        ensures uses { Runs U.leads self.old.who self.old.uses self.new.uses (Ask asked Return) result }
+        ensures uses { Runs U.leads U.refuses self.old.who self.old.uses self.new.uses (Ask asked Return) result }
         ensures same { self.new ≡ moved_on self.old self.new.uses self.old.state }
     {
         ask(&mut self.uses, self.who, asked)
@@ -293,6 +292,7 @@ impl<U: Uses> Eval<U> {
     /// Closes the session. The first cause counts.
     pub fn close(&mut self, cause: Cause)
         ensures uses { U.leads self.old.uses [] [] self.new.uses }
+        ensures closed { (first : Cause) × U.refuses self.new.uses (halt.Closed first) }
         ensures same { self.new ≡ moved_on self.old self.new.uses self.old.state }
     {
         self.uses.close(cause);

@@ -98,7 +98,7 @@ fn monad<U: Uses>(
     edge: Part,
     rest: Parts,
 ) -> Result<Parts, EvalEnd>
-    ensures makes { Makes U.leads by.now.who uses.old uses.new (rows.monad_with (Some (verb, y)) edge rest state.old) result state.new }
+    ensures makes { Makes U.leads U.refuses by.now.who uses.old uses.new (rows.monad_with (Some (verb, y)) edge rest state.old) result state.new }
     ensures turns { state.new.left ≤ state.old.left }
 {
     match apply(uses, by, state, MOST_LEVELS, verb, None, y) {
@@ -113,7 +113,7 @@ fn monad_row<U: Uses>(
     state: &mut State,
     parts: Parts,
 ) -> Result<Parts, EvalEnd>
-    ensures makes { Makes U.leads by.now.who uses.old uses.new (rows.by_three rows.monad_of parts state.old) result state.new }
+    ensures makes { Makes U.leads U.refuses by.now.who uses.old uses.new (rows.by_three rows.monad_of parts state.old) result state.new }
     ensures turns { state.new.left ≤ state.old.left }
 {
     match first_three(parts) {
@@ -135,7 +135,7 @@ fn dyad<U: Uses>(
     y: Array,
     rest: Parts,
 ) -> Result<Parts, EvalEnd>
-    ensures makes { Makes U.leads by.now.who uses.old uses.new (rows.dyad_with (Some x) (Some (verb, y)) rest state.old) result state.new }
+    ensures makes { Makes U.leads U.refuses by.now.who uses.old uses.new (rows.dyad_with (Some x) (Some (verb, y)) rest state.old) result state.new }
     ensures turns { state.new.left ≤ state.old.left }
 {
     match apply(uses, by, state, MOST_LEVELS, verb, Some(x), y) {
@@ -153,7 +153,7 @@ fn dyad_of<U: Uses>(
     y: Part,
     rest: Parts,
 ) -> Result<Parts, EvalEnd>
-    ensures makes { Makes U.leads by.now.who uses.old uses.new (rows.dyad_of x verb y rest state.old) result state.new }
+    ensures makes { Makes U.leads U.refuses by.now.who uses.old uses.new (rows.dyad_of x verb y rest state.old) result state.new }
     ensures turns { state.new.left ≤ state.old.left }
 {
     match noun_in(x) {
@@ -171,7 +171,7 @@ fn dyad_row<U: Uses>(
     state: &mut State,
     parts: Parts,
 ) -> Result<Parts, EvalEnd>
-    ensures makes { Makes U.leads by.now.who uses.old uses.new (rows.by_three rows.dyad_of parts state.old) result state.new }
+    ensures makes { Makes U.leads U.refuses by.now.who uses.old uses.new (rows.by_three rows.dyad_of parts state.old) result state.new }
     ensures turns { state.new.left ≤ state.old.left }
 {
     match first_three(parts) {
@@ -186,7 +186,7 @@ fn inner_monad_row<U: Uses>(
     state: &mut State,
     mut parts: Parts,
 ) -> Result<Parts, EvalEnd>
-    ensures makes { Makes U.leads by.now.who uses.old uses.new (rows.behind_first (rows.by_three rows.monad_of) parts state.old) result state.new }
+    ensures makes { Makes U.leads U.refuses by.now.who uses.old uses.new (rows.behind_first (rows.by_three rows.monad_of) parts state.old) result state.new }
     ensures turns { state.new.left ≤ state.old.left }
 {
     match parts.pop() {
@@ -204,7 +204,7 @@ fn inner_dyad_row<U: Uses>(
     state: &mut State,
     mut parts: Parts,
 ) -> Result<Parts, EvalEnd>
-    ensures makes { Makes U.leads by.now.who uses.old uses.new (rows.behind_first (rows.by_three rows.dyad_of) parts state.old) result state.new }
+    ensures makes { Makes U.leads U.refuses by.now.who uses.old uses.new (rows.behind_first (rows.by_three rows.dyad_of) parts state.old) result state.new }
     ensures turns { state.new.left ≤ state.old.left }
 {
     match parts.pop() {
@@ -235,7 +235,7 @@ fn term_of(by: &Activity, part: &Part) -> Result<Option<Term>, NoMemory>
 
 // Gives a name its value.
 fn write<U: Uses>(uses: &mut U, by: &Activity, name: Name, value: Term) -> Result<(), Halt>
-    ensures { Runs U.leads by.now.who uses.old uses.new (Ask (asked.Write base_locale name value) (λ reply. Return tt)) result }
+    ensures { Runs U.leads U.refuses by.now.who uses.old uses.new (Ask (asked.Write base_locale name value) (λ reply. Return tt)) result }
 {
     match base(by.alloc) {
         Ok(place) => tell(uses, by.who, Use::Write { place, name, value }),
@@ -252,7 +252,7 @@ fn write_part<U: Uses>(
     value: Part,
     rest: Parts,
 ) -> Result<Parts, EvalEnd>
-    ensures { (s : State) → Makes U.leads by.now.who uses.old uses.new (rows.assigns name value rest s (Some term)) result s }
+    ensures { (s : State) → Makes U.leads U.refuses by.now.who uses.old uses.new (rows.assigns name value rest s (Some term)) result s }
 {
     match write(uses, by, name, term) {
         Ok(()) => push(rest, value),
@@ -268,7 +268,7 @@ fn assign<U: Uses>(
     value: Part,
     rest: Parts,
 ) -> Result<Parts, EvalEnd>
-    ensures { (s : State) → Makes U.leads by.now.who uses.old uses.new (rows.assigns name value rest s (rows.term_of value)) result s }
+    ensures { (s : State) → Makes U.leads U.refuses by.now.who uses.old uses.new (rows.assigns name value rest s (rows.term_of value)) result s }
 {
     match term_of(by, &value) {
         Ok(Some(term)) => write_part(uses, by, name, term, value, rest),
@@ -304,7 +304,7 @@ fn assign_to<U: Uses>(
     value: Part,
     rest: Parts,
 ) -> Result<Parts, EvalEnd>
-    ensures { (s : State) → Makes U.leads by.now.who uses.old uses.new (rows.assigns_to (rows.target_name target) value rest s) result s }
+    ensures { (s : State) → Makes U.leads U.refuses by.now.who uses.old uses.new (rows.assigns_to (rows.target_name target) value rest s) result s }
 {
     match target_name(target) {
         Ok(name) => assign(uses, by, name, value, rest),
@@ -313,7 +313,7 @@ fn assign_to<U: Uses>(
 }
 
 fn assignment_row<U: Uses>(uses: &mut U, by: &Activity, parts: Parts) -> Result<Parts, EvalEnd>
-    ensures { (s : State) → Makes U.leads by.now.who uses.old uses.new (rows.by_three rows.assignment_of parts s) result s }
+    ensures { (s : State) → Makes U.leads U.refuses by.now.who uses.old uses.new (rows.by_three rows.assignment_of parts s) result s }
 {
     match first_three(parts) {
         Some((target, _, value, rest)) => assign_to(uses, by, target, value, rest),
@@ -338,7 +338,7 @@ fn act_built<U: Uses>(
     row: u8,
     parts: Parts,
 ) -> Result<Parts, EvalEnd>
-    ensures makes { Makes U.leads by.now.who uses.old uses.new (rows.built_row row parts state.old) result state.new }
+    ensures makes { Makes U.leads U.refuses by.now.who uses.old uses.new (rows.built_row row parts state.old) result state.new }
     ensures turns { state.new.left ≤ state.old.left }
 {
     if row == 0 {
@@ -362,7 +362,7 @@ pub(crate) fn act<U: Uses>(
     row: u8,
     parts: Parts,
 ) -> Result<Parts, EvalEnd>
-    ensures makes { Makes U.leads by.now.who uses.old uses.new (rows.acted row parts state.old) result state.new }
+    ensures makes { Makes U.leads U.refuses by.now.who uses.old uses.new (rows.acted row parts state.old) result state.new }
     ensures turns { OnOk result (state.new.left < state.old.left) }
 {
     if !is_built(row) {

@@ -56,7 +56,7 @@ fn move_value<U: Uses>(
     name: Name,
     parts: Parts,
 ) -> Result<Parts, EvalEnd>
-    ensures { (s : State) → Makes U.leads by.now.who uses.old uses.new (execution.moved_value name parts s) result s }
+    ensures { (s : State) → Makes U.leads U.refuses by.now.who uses.old uses.new (execution.moved_value name parts s) result s }
 {
     match copy_name(by.alloc, &name) {
         Ok(sought) => match read(uses, by, sought) {
@@ -74,7 +74,7 @@ fn move_name<U: Uses>(
     name: Name,
     parts: Parts,
 ) -> Result<Parts, EvalEnd>
-    ensures { (s : State) → Makes U.leads by.now.who uses.old uses.new (execution.moved_name name parts s) result s }
+    ensures { (s : State) → Makes U.leads U.refuses by.now.who uses.old uses.new (execution.moved_name name parts s) result s }
 {
     if is(Class::Copula, parts.class(0)) {
         push(parts, Part::Target(name))
@@ -89,7 +89,7 @@ fn move_in<U: Uses>(
     item: Queued,
     parts: Parts,
 ) -> Result<Parts, EvalEnd>
-    ensures { (s : State) → Makes U.leads by.now.who uses.old uses.new (execution.moved_in item parts s) result s }
+    ensures { (s : State) → Makes U.leads U.refuses by.now.who uses.old uses.new (execution.moved_in item parts s) result s }
 {
     match item {
         Queued::Ready(part) => push(parts, part),
@@ -110,7 +110,7 @@ pub(crate) fn execute<U: Uses>(
     state: &mut State,
     queue: Stack<Queued>,
 ) -> Result<(Parts, bool), EvalEnd>
-    ensures { Makes U.leads by.now.who uses.old uses.new (execution.execute state.old.left queue [] false state.old) result state.new }
+    ensures { Makes U.leads U.refuses by.now.who uses.old uses.new (execution.execute state.old.left queue [] false state.old) result state.new }
 {
     let mut queue = queue;
     let mut parts = Stack::new(by.alloc);

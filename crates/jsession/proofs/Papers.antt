@@ -16,6 +16,10 @@ appends_further (Some front) None c xs ys h k = absurd h
 appends_further (Some front) (Some middle) None xs ys h k = absurd k
 appends_further (Some front) (Some middle) (Some back) xs ys h k = k ∙ ap (λ zs. zs ++ ys) h ∙ append_assoc front xs ys
 
+pub nothing_appended : (took : Option (List ℕ)) → Appends took took []
+nothing_appended None = tt
+nothing_appended (Some bytes) = sym (append-nil bytes)
+
 pub took_further : (a b c : Option (List ℕ)) (xs ys : List ℕ) → Appends a b xs → TookPart b c ys → TookPart a c (xs ++ ys)
 took_further a b c xs ys h (part, begins, k) =
     let n = length part in

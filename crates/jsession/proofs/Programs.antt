@@ -7,6 +7,10 @@ use Rattle.juses.specs.declared.uses.Halt.{Halt}
 use Rattle.juses.specs.declared.uses.Reply.{Reply}
 use Rattle.juses.specs.declared.uses.Use.{Use}
 use Rattle.jeval.specs.Made.{Comes}
+use Rattle.jeval.specs.Showing.{sentence}
+use Rattle.jeval.specs.declared.eval.Shown.{Shown}
+use Rattle.jeval.specs.declared.state.State.{State}
+use Rattle.jsession.specs.Script.{script}
 
 module _ {A B : Type 0} (f : A → B) where
   pub ends_map : (p : Program Use Reply A) (es : List (Use × Reply)) (a : A) → Ends p es a → Ends (p >>= (λ x. Return (f x))) es (f a)
@@ -28,16 +32,38 @@ module _ {A B C : Type 0} (f : A → B) where
   begins_after k (Ask q r) [] fs b h m = absurd h
   begins_after k (Ask q r) (e ∷ es) fs b h m = (h.0, begins_after k (r e.1) es fs b h.1 m)
 
-  pub begins_of : (k : B → Program Use Reply C) (p : Program Use Reply A) (es : List (Use × Reply)) → Begins (p >>= (λ x. Return (f x))) es → Begins (p >>= (λ x. k (f x))) es
-  begins_of k p [] h = tt
-  begins_of k (Return x) (e ∷ es) h = absurd h
-  begins_of k (Ask q r) (e ∷ es) h = (h.0, begins_of k (r e.1) es h.1)
-
 module _ {A B : Type 0} (f : A → Program Use Reply B) where
   pub begins_bind : (p : Program Use Reply A) (es : List (Use × Reply)) → Begins p es → Begins (p >>= f) es
   begins_bind p [] h = tt
   begins_bind (Return x) (e ∷ es) h = absurd h
   begins_bind (Ask q r) (e ∷ es) h = (h.0, begins_bind (r e.1) es h.1)
+
+-- a program that goes on otherwise once it has come so far
+begins_through : {A B C : Type 0} (f : A → Program Use Reply B) (g : A → Program Use Reply C) (p : Program Use Reply A) (es fs : List (Use × Reply)) (b : B) → Ends (p >>= f) es b
+    → ((a : A) (ds : List (Use × Reply)) → Ends (f a) ds b → Begins (g a) (ds ++ fs)) → Begins (p >>= g) (es ++ fs)
+begins_through f g (Return x) es fs b h k = k x es h
+begins_through f g (Ask q r) [] fs b h k = absurd h
+begins_through f g (Ask q r) (e ∷ es) fs b h k = (h.0, begins_through f g (r e.1) es fs b h.1 k)
+
+begins_further : {A B C : Type 0} (f : A → Program Use Reply B) (g : A → Program Use Reply C) (p : Program Use Reply A) (es : List (Use × Reply))
+    → ((a : A) (ds : List (Use × Reply)) → Begins (f a) ds → Begins (g a) ds) → Begins (p >>= f) es → Begins (p >>= g) es
+begins_further f g (Return x) es k h = k x es h
+begins_further f g (Ask q r) [] k h = tt
+begins_further f g (Ask q r) (e ∷ es) k h = (h.0, begins_further f g (r e.1) es k h.1)
+
+-- the first sentences came to their end, and the next ones began
+pub script_begins : (turns : ℕ) (first now : List (List ℕ)) (s t : State) (es fs : List (Use × Reply)) → Ends (script turns first s) es t → Begins (script turns now t) fs → Begins (script turns (first ++ now) s) (es ++ fs)
+script_begins turns [] now s t [] fs h m = subst (λ x. Begins (script turns now x) fs) h m
+script_begins turns [] now s t (e ∷ es) fs h m = absurd h
+script_begins turns (line ∷ first) now s t es fs h m =
+    begins_through (λ (r : Shown × State). script turns first r.1) (λ (r : Shown × State). script turns (first ++ now) r.1) (sentence turns line s) es fs t h (λ r ds k. script_begins turns first now r.1 t ds fs k m)
+
+-- what begins some sentences begins these and more
+pub more_begin : (turns : ℕ) (now later : List (List ℕ)) (s : State) (es : List (Use × Reply)) → Begins (script turns now s) es → Begins (script turns (now ++ later) s) es
+more_begin turns [] later s [] h = tt
+more_begin turns [] later s (e ∷ es) h = absurd h
+more_begin turns (line ∷ now) later s es h =
+    begins_further (λ (r : Shown × State). script turns now r.1) (λ (r : Shown × State). script turns (now ++ later) r.1) (sentence turns line s) es (λ r ds k. more_begin turns now later r.1 ds k) h
 
 pub ends_begins : {A : Type 0} (p : Program Use Reply A) (es : List (Use × Reply)) (a : A) → Ends p es a → Begins p es
 ends_begins p [] a h = tt

@@ -4,6 +4,7 @@ ghost use Rattle.jeval.specs.Made.{Runs, beside};
 ghost use Rattle.jeval.specs.Session.{moved_on};
 ghost use Rattle.jeval.specs.Showing.{sentence};
 ghost use Rattle.jsession.specs.Items.{sentences};
+ghost use Rattle.jsession.specs.Broke.{Went};
 ghost use Rattle.jsession.specs.Ran.{Ran, Wrote, paper};
 ghost use Rattle.jsession.specs.Script.{script};
 
@@ -58,7 +59,7 @@ fn send_prints<U: Uses, K: Sink>(eval: &mut Eval<U>, out: &mut K) -> Result<(), 
 
 // Evaluates one sentence.
 fn evaluate<U: Uses>(alloc: Global, eval: &mut Eval<U>, line: &[u8]) -> Result<Shown, Halt>
-    ensures uses { Runs U.leads eval.old.who eval.old.uses eval.new.uses (sentence eval.old.turns line.now eval.old.state) (beside result eval.new.state) }
+    ensures uses { Runs U.leads U.refuses eval.old.who eval.old.uses eval.new.uses (sentence eval.old.turns line.now eval.old.state) (beside result eval.new.state) }
     ensures same { eval.new ≡ moved_on eval.old eval.new.uses eval.new.state }
 {
     match Vec::from_slice(alloc, line) {
@@ -79,6 +80,7 @@ fn run_sentence<U: Uses, K: Sink>(
 ) -> Result<(), Status>
     requires { eval.old.who ≡ [] }
     ensures ran { Ran U.leads eval.old.uses eval.new.uses (script eval.old.turns (line.now ∷ []) eval.old.state) eval.new.state (paper (K.took out.old) (K.faults out.old) (K.whole out.old)) (paper (K.took out.new) (K.faults out.new) (K.whole out.new)) result }
+    ensures all { OnOk result (U.drained eval.new.uses) }
     ensures same { eval.new ≡ moved_on eval.old eval.new.uses eval.new.state }
     ensures count { K.faults out.old ≤ K.faults out.new }
 {
@@ -100,8 +102,7 @@ pub(crate) fn run_lines<U: Uses, K: Sink>(
     out: &mut K,
 ) -> Result<(), Status>
     requires { eval.old.who ≡ [] }
-    ensures ran { Ran U.leads eval.old.uses eval.new.uses (script eval.old.turns (sentences lines.now) eval.old.state) eval.new.state (paper (K.took out.old) (K.faults out.old) (K.whole out.old)) (paper (K.took out.new) (K.faults out.new) (K.whole out.new)) result }
-    ensures all { OnOk result (U.drained eval.new.uses) }
+    ensures went { Went U.leads U.drained eval.old.turns eval.old.uses eval.new.uses (sentences lines.now) eval.old.state eval.new.state (paper (K.took out.old) (K.faults out.old) (K.whole out.old)) (paper (K.took out.new) (K.faults out.new) (K.whole out.new)) result }
     ensures same { eval.new ≡ moved_on eval.old eval.new.uses eval.new.state }
     ensures count { K.faults out.old ≤ K.faults out.new }
 {

@@ -3,3 +3,4 @@ pub mod Desks
 pub mod Traces
 pub mod KeyFacts
 pub mod Runs
+pub mod Closing

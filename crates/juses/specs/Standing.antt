@@ -8,7 +8,7 @@ use Rattle.juses.specs.declared.uses.Cause.{Cause}
 use Rattle.juses.specs.declared.uses.Use.{Use}
 use Rattle.juses.specs.declared.uses.Reply.{Reply}
 use Rattle.juses.specs.declared.uses.Halt.{Halt}
-use Rattle.juses.specs.declared.uses.Halt.TheVariants.{NoMemory, Closed}
+use Rattle.juses.specs.declared.uses.Halt.TheVariants.{Wait, NoMemory, Closed}
 
 -- the names of a locale with their values, and the locales with their names, in order of bytes
 abbrev pub NameTable : Type 0
@@ -56,6 +56,12 @@ abbrev pub HaltsRightly : Option Cause → Result Reply Halt → Type 0
 HaltsRightly (Some cause) answer = answer ≡ Err (Closed cause)
 HaltsRightly None (Ok replied) = ⊤
 HaltsRightly None (Err halt) = halt ≡ NoMemory
+
+-- what a refusal says of the desk that refused: it was closed with this cause. It never has to wait.
+abbrev pub Refuses : Kept → Halt → Type 0
+Refuses d (Closed cause) = d.closed ≡ Some cause
+Refuses d NoMemory = Unit {0}
+Refuses d Wait = ⊥
 
 -- nothing was handed out, and the desk wasn't closed
 pub record OnlyMoves (d d' : Kept) : Type 0 where

@@ -1,10 +1,12 @@
 //! A session on one thread.
-ghost use Rattle.std.specs.Prelude.{◌≡◌, [], ◌∷◌, IfOk, OnOk, OnErr};
+ghost use Rattle.std.specs.Prelude.{◌≡◌, [], ◌∷◌, IfOk, IfErr, OnOk, OnErr};
 ghost use Rattle.juses.specs.Desk.{first};
 ghost use Rattle.juses.specs.Entries.{entry};
 ghost use Rattle.juses.specs.Keeping.{first_kept};
 ghost use Rattle.juses.specs.Leading.{Leads, leads_nowhere, leads_on};
-ghost use Rattle.juses.specs.Standing.{Stands, OnlyMoves, HaltsRightly, HandsOut, handed_out, closed_by};
+ghost use Rattle.juses.specs.Standing.{Stands, OnlyMoves, HaltsRightly, Refuses, HandsOut, handed_out, closed_by};
+ghost use Rattle.juses.specs.declared.uses.Cause.{Cause};
+ghost use Rattle.juses.specs.declared.uses.Halt.TheVariants as halt;
 
 use crate::desk::Desk;
 use crate::uses::{Cause, Halt, Reply, Use, Uses};
@@ -53,6 +55,8 @@ impl Uses for Solo {
 
     ghost drained = { λ d. d.waiting ≡ [] };
 
+    ghost refuses = { Refuses };
+
     ghost thread = { λ _. 0 };
 
     /// Answers one use, on thread 0.
@@ -60,7 +64,8 @@ impl Uses for Solo {
         ensures ok { IfOk result (λ replied. Leads self.old (entry who 0 asked replied ∷ []) [] self.new) }
         ensures err { OnErr result (Leads self.old [] [] self.new) }
         ensures only { OnOk result (OnlyMoves self.old self.new) }
-        ensures halts { HaltsRightly self.old.closed result }
+        ensures halts { IfErr result (λ why. Refuses self.new why) }
+        ensures rightly { HaltsRightly self.old.closed result }
         ensures unchanged { OnErr result (self.new ≡ self.old) }
     {
         self.desk.answer(who, 0, asked)
@@ -80,7 +85,8 @@ impl Uses for Solo {
     /// Closes the session. The first cause counts.
     fn close(&mut self, cause: Cause)
         ensures leads { Leads self.old [] [] self.new }
-        ensures closed { self.new ≡ closed_by self.old cause }
+        ensures closed { (first : Cause) × Refuses self.new (halt.Closed first) }
+        ensures first { self.new ≡ closed_by self.old cause }
     {
         self.desk.close(cause);
     }

@@ -1,6 +1,9 @@
 //! Uses, replies and entries.
-ghost use Rattle.std.specs.Prelude.{◌≡◌, List, [], ◌∷◌, ◌++◌, ℕ, IfOk, OnErr};
+ghost use Rattle.std.specs.Prelude.{◌≡◌, List, [], ◌∷◌, ◌++◌, ℕ, IfOk, IfErr, OnErr};
+ghost use Rattle.juses.specs.declared.uses.Cause.{Cause};
 ghost use Rattle.juses.specs.declared.uses.Entry.{Entry};
+ghost use Rattle.juses.specs.declared.uses.Halt.{Halt};
+ghost use Rattle.juses.specs.declared.uses.Halt.TheVariants as halt;
 ghost use Rattle.juses.specs.Entries.{entry};
 
 use jdata::{Bytes, Name, Path};
@@ -71,13 +74,17 @@ pub trait Uses {
     /// Each printed byte was handed out.
     ghost drained: { Self → Type 0 };
 
+    /// It refuses a use with this halt.
+    ghost refuses: { Self → Halt → Type 0 };
+
     /// The thread on which its uses are made.
     ghost thread: { Self → ℕ };
 
     /// Answers one use.
     fn call(&mut self, who: Path, asked: Use) -> Result<Reply, Halt>
         ensures ok { IfOk result (λ reply. leads self.old (entry who (thread self.old) asked reply ∷ []) [] self.new) }
-        ensures err { OnErr result (leads self.old [] [] self.new) };
+        ensures err { OnErr result (leads self.old [] [] self.new) }
+        ensures halts { IfErr result (λ why. refuses self.new why) };
 
     /// The bytes that were printed and not taken yet, in order.
     fn take_prints(&mut self) -> Bytes
@@ -86,7 +93,8 @@ pub trait Uses {
 
     /// Closes the session, so that no later use is answered. The first cause counts.
     fn close(&mut self, cause: Cause)
-        ensures { leads self.old [] [] self.new };
+        ensures leads { leads self.old [] [] self.new }
+        ensures closed { (first : Cause) × refuses self.new (halt.Closed first) };
 
     ghost stays: { (s : Self) → leads s [] [] s };
 

@@ -7,4 +7,4 @@ use Rattle.jeval.proofs.Runs.{halts}
 use Rattle.jeval.proofs.applying.sought.Goals as goal
 
 pub returns-in-Err : goal.returns-in-Err
-returns-in-Err g c = λ s. halts g.U.Uses.leads g.met.U.Uses.stays g.met.U.Uses.joins c.args.by.now.who c.args.uses.now c.read.new.uses (Ask (Read base_locale c.args.name) Return) (λ reply. answers (verb_in reply) s) c.in-Err.halt c.in-Err.ensures
+returns-in-Err g c = λ s. halts g.U.Uses.leads g.U.Uses.refuses g.met.U.Uses.stays g.met.U.Uses.joins c.args.by.now.who c.args.uses.now c.read.new.uses (Ask (Read base_locale c.args.name) Return) (λ reply. answers (verb_in reply) s) c.in-Err.halt c.in-Err.ensures
