@@ -1,22 +1,20 @@
 -- What a session over a new desk did is a history, and what it wrote are the prints of that.
-use Rattle.std.proofs.Common.{◌≡◌, ◌⊎◌, inl, inr, arith, ℕ, List, [], ◌∷◌, ◌++◌, length, take, drop, Option, Some, None, refl, ap, sym, ◌∙◌, subst, append_assoc, append-nil}
+use Rattle.std.proofs.Common.{◌≡◌, Bool, true, true≢false, inl, inr, arith, ℕ, List, [], ◌∷◌, ◌++◌, length, drop, Option, refl, ap, sym, ◌∙◌, subst, append_assoc, append-nil}
 use Rattle.std.proofs.Math.Seq.{take-append_seam}
 use Rattle.std.proofs.lemmas.List.{take-append-drop}
 use Rattle.std.specs.Io.{StartsWith}
 use Rattle.std.specs.Io.KnownBytes.{Appends}
 use Rattle.jeval.specs.declared.state.State.{State}
-use Rattle.jio.specs.Counts.{Rises}
 use Rattle.jio.specs.Sink.{TookPart}
 use Rattle.jsession.specs.Broke.{Broke, ill}
 use Rattle.jsession.specs.Ran.{Paper, Wrote}
-use Rattle.jsession.specs.Script.{script}
 use Rattle.jsession.proofs.Papers.{nothing_appended}
 use Rattle.jsession.proofs.Programs.{ends_begins, script_begins, both_of, exchanged}
 use Rattle.jsession.proofs.Sessions.{ran_of_broke}
 use Rattle.jsession.specs.declared.status.Status.{Status}
 use Rattle.jsession.specs.declared.status.Status.TheVariants as status
 use Rattle.juses.specs.Desk.{State as DeskState, first}
-use Rattle.juses.specs.Histories.{Legal, Faithful, Once, OneThreadRun, prints}
+use Rattle.juses.specs.Histories.{Legal, Once, OneThreadRun, prints}
 use Rattle.juses.specs.Keeping.{first_kept, first_tables}
 use Rattle.juses.specs.Leading.{Leads, LeadsFrom, leads_nowhere, leads_on}
 use Rattle.juses.specs.OldestFirst.{taken, onto, history, exchanges, AllOf}
@@ -76,29 +74,43 @@ module _ (d : Kept) (es : List Entry) (bytes : List ℕ) (main : AllOf [] es) (l
   pub all_printed : d.waiting ≡ [] → bytes ≡ prints (history es)
   all_printed out = sym (append-nil bytes) ∙ ap (λ zs. bytes ++ zs) (sym out) ∙ sym split
 
-  pub part_of : (items : List (List ℕ)) (took took' : Option (List ℕ)) → Begins (main_program items) (exchanges es) → TookPart took took' bytes → WrotePart took took' items
-  part_of items took took' begun took_part =
-      let P : List ℕ → Type 0 = λ zs. TookPart took took' zs in
-      (history es, is_legal, faithful_history (main_program items) es main begun, subst P (sym split) (took_more took took' bytes d.waiting took_part))
+  pub is_wrote : (took took' : Option (List ℕ)) → d.waiting ≡ [] → Appends took took' bytes → Appends took took' (prints (history es))
+  is_wrote took took' out wrote = let P : List ℕ → Type 0 = λ zs. Appends took took' zs in subst P (all_printed out) wrote
+
+  pub part_of : (items : List (List ℕ)) (took took' : Option (List ℕ)) (whole : Bool) → Begins (main_program items) (exchanges es) → TookPart took took' bytes
+      → (whole ≡ true → d.waiting ≡ []) → (whole ≡ true → Appends took took' bytes) → WrotePart took took' whole items
+  part_of items took took' whole begun took_part out all =
+      let P : List ℕ → Type 0 = λ zs. TookPart took took' zs in (
+        history es,
+        is_legal,
+        faithful_history (main_program items) es main begun,
+        subst P (sym split) (took_more took took' bytes d.waiting took_part),
+        λ w. is_wrote took took' (out w) (all w),
+      )
 
   pub is_run : (items : List (List ℕ)) (state : State) → Ends (main_program items) (exchanges es) state → OneThreadRun (main_program items) 0 (history es)
   is_run items state ended =
       let begun = ends_begins (main_program items) (exchanges es) state ended in
       whole_run (main_program items) 0 (history es) is_legal (faithful_history (main_program items) es main begun) (complete_history (main_program items) es state main ended)
 
-  pub is_wrote : (took took' : Option (List ℕ)) → d.waiting ≡ [] → Appends took took' bytes → Appends took took' (prints (history es))
-  is_wrote took took' out wrote = let P : List ℕ → Type 0 = λ zs. Appends took took' zs in subst P (all_printed out) wrote
-
   pub whole_of : (items : List (List ℕ)) (took took' : Option (List ℕ)) (state : State) → Ends (main_program items) (exchanges es) state → d.waiting ≡ [] → Appends took took' bytes → WroteRun took took' items
   whole_of items took took' state ended out wrote = (history es, is_run items state ended, is_wrote took took' out wrote)
 
 part_taken : (p q : Paper) (bytes : List ℕ) (why : Status) → Wrote p q bytes (ill why) → TookPart p.took q.took bytes
 part_taken p q bytes status.WriteFault h = h.0
-part_taken p q bytes status.NoMemory h = h
+part_taken p q bytes status.NoMemory h = h.0
 part_taken p q bytes status.Done h = absurd h
 part_taken p q bytes status.Usage h = absurd h
 part_taken p q bytes status.ReadFault h = absurd h
 part_taken p q bytes status.TooLong h = absurd h
+
+all_taken : (p q : Paper) (bytes : List ℕ) (why : Status) → Wrote p q bytes (ill why) → q.whole ≡ true → Appends p.took q.took bytes
+all_taken p q bytes status.WriteFault h whole = absurd (true≢false (sym whole ∙ h.2))
+all_taken p q bytes status.NoMemory h whole = h.1 whole
+all_taken p q bytes status.Done h whole = absurd h
+all_taken p q bytes status.Usage h whole = absurd h
+all_taken p q bytes status.ReadFault h whole = absurd h
+all_taken p q bytes status.TooLong h whole = absurd h
 
 -- what was done is all that was to be done
 pub all_of : (took took' : Option (List ℕ)) (items : List (List ℕ)) → WroteRun took took' items → BrokeOff took took' items
@@ -172,7 +184,7 @@ module _ (new : Kept) (items : List (List ℕ)) (s' : State) (sink sink' : Paper
     part = took_more b.sheet.took sink'.took b.broke.bytes new.waiting (part_taken b.sheet sink' b.broke.bytes why b.broke.wrote);
   }
 
-  pub some_of : WroteSome sink.took sink'.took items
+  pub some_of : WroteSome sink.took sink'.took sink'.whole items
   some_of =
       let whole = ran_of_broke Leads (λ (d : Kept) (h : Halt). Unit {0}) leads_nowhere leads_on (λ (d : Kept). d.waiting ≡ []) (first_kept 0) new 10000000 items (record { left = 10000000 }) s' sink sink' why b in
-      (part_of new whole.entries whole.bytes whole.all_main whole.led items sink.took sink'.took whole.comes (part_taken sink sink' whole.bytes why whole.wrote), broken)
+      (part_of new whole.entries whole.bytes whole.all_main whole.led items sink.took sink'.took sink'.whole whole.comes (part_taken sink sink' whole.bytes why whole.wrote) b.none_left (all_taken sink sink' whole.bytes why whole.wrote), broken)

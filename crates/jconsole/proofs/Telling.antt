@@ -1,10 +1,9 @@
 -- What a session tells by its status.
-use Rattle.std.proofs.Common.{◌≡◌, ◌≤◌, ◌+◌, ℕ, List, [], ◌∷◌, ◌++◌, length, take, drop, Option, Some, None, IfSome, Result, Ok, Err, OnOk, inl, inr, arith, refl, ap, sym, ◌∙◌, subst, append-nil, append_assoc, length-append}
+use Rattle.std.proofs.Common.{◌≡◌, ◌≤◌, ◌+◌, ℕ, List, [], ◌∷◌, ◌++◌, length, Bool, Option, Some, None, IfSome, Ok, Err, inl, inr, arith, refl, ap, sym, ◌∙◌, subst, append-nil, append_assoc, length-append}
 use Rattle.std.proofs.Math.Seq.{take-append_seam}
 use Rattle.std.specs.Io.{StartsWith}
-use Rattle.std.specs.Io.KnownBytes.{Appends, Consumes, IsAtEnd}
+use Rattle.std.specs.Io.KnownBytes.{Consumes, IsAtEnd}
 use Rattle.jeval.specs.Session.{Session}
-use Rattle.jeval.specs.declared.state.State.{State}
 use Rattle.jio.specs.Counts.{Rises}
 use Rattle.jsession.specs.Items.{sentences, ended, items_of}
 use Rattle.jsession.specs.Broke.{Answer, Broke, Went}
@@ -30,9 +29,9 @@ use Rattle.jconsole.proofs.Solos.{part_of, whole_of, all_of, some_of}
 pub nothing_told : (source source' : Side) (sink : Paper) → Told source source' sink sink status.NoMemory
 nothing_told source source' sink = told source.left
   where
-    told : (left : Option (List ℕ)) → IfSome left (λ script. (items : List (List ℕ)) × AreItems script source'.left items × WroteSome sink.took sink.took items)
+    told : (left : Option (List ℕ)) → IfSome left (λ script. (items : List (List ℕ)) × AreItems script source'.left items × WroteSome sink.took sink.took sink.whole items)
     told None = tt
-    told (Some script) = ([], inr ([], refl, refl), (([], tt, tt, ([], refl, nothing_appended sink.took)), all_of sink.took sink.took [] ([], whole_run (main_program []) 0 [] tt tt refl, nothing_appended sink.took)))
+    told (Some script) = ([], inr ([], refl, refl), (([], tt, tt, ([], refl, nothing_appended sink.took), λ whole. nothing_appended sink.took), all_of sink.took sink.took [] ([], whole_run (main_program []) 0 [] tt tt refl, nothing_appended sink.took)))
 
 pub gives_nothing : (source : Side) → GivesWhatIsLeft source source
 gives_nothing source = given source.left
@@ -86,11 +85,11 @@ items_read source source' how.Long bytes script is read =
     let Q : List ℕ → Type 0 = λ zs. Consumes source.left source'.left zs in
     inr (bytes, starts source'.left script bytes (last ∷ []) (subst P is (subst Q read.reason.1 read.consumed)), refl)
 
-part_told : (source source' : Side) (how : Reading) (bytes : List ℕ) (took took' : Option (List ℕ)) → IsRead source source' how bytes → WroteSome took took' (items_of how bytes)
-    → IfSome source.left (λ script. (items : List (List ℕ)) × AreItems script source'.left items × WroteSome took took' items)
-part_told source source' how bytes took took' read wrote = told source.left refl
+part_told : (source source' : Side) (how : Reading) (bytes : List ℕ) (took took' : Option (List ℕ)) (whole : Bool) → IsRead source source' how bytes → WroteSome took took' whole (items_of how bytes)
+    → IfSome source.left (λ script. (items : List (List ℕ)) × AreItems script source'.left items × WroteSome took took' whole items)
+part_told source source' how bytes took took' whole read wrote = told source.left refl
   where
-    told : (left : Option (List ℕ)) → source.left ≡ left → IfSome left (λ script. (items : List (List ℕ)) × AreItems script source'.left items × WroteSome took took' items)
+    told : (left : Option (List ℕ)) → source.left ≡ left → IfSome left (λ script. (items : List (List ℕ)) × AreItems script source'.left items × WroteSome took took' whole items)
     told None is = tt
     told (Some script) is = (items_of how bytes, items_read source source' how bytes script is read, wrote)
 
@@ -114,15 +113,15 @@ module _ (source source' : Side) (sink sink' : Paper) (old new : Session Kept) (
       (long_given source.left source'.left bytes read.reason.0 (λ front. WroteRun sink.took sink'.took (sentences (ended front))) (subst Q read.reason.1 read.consumed) read.reason.2 wrote, read.reason.3, ran.wrote.2)
   told_well how.Short bytes done read ran out =
       let begun = ends_begins (main_program []) (exchanges ran.entries) new.state ran.comes in
-      let part = part_of new.uses ran.entries ran.bytes ran.all_main ran.led [] sink.took sink'.took begun (took_all sink.took sink'.took ran.bytes ran.wrote.0) in
+      let part = part_of new.uses ran.entries ran.bytes ran.all_main ran.led [] sink.took sink'.took sink'.whole begun (took_all sink.took sink'.took ran.bytes ran.wrote.0) (λ w. out) (λ w. ran.wrote.0) in
       let whole = whole_of new.uses ran.entries ran.bytes ran.all_main ran.led [] sink.took sink'.took new.state ran.comes out ran.wrote.0 in
-      part_told source source' how.Short bytes sink.took sink'.took read (part, all_of sink.took sink'.took [] whole)
+      part_told source source' how.Short bytes sink.took sink'.took sink'.whole read (part, all_of sink.took sink'.took [] whole)
 
   told_ill : (how : Reading) (bytes : List ℕ) (why : Status) → IsRead source source' how bytes → Broke Leads (λ d. d.waiting ≡ []) 10000000 (first_kept 0) new.uses (items_of how bytes) (record { left = 10000000 }) new.state sink sink' why
       → Told source source' sink sink' why
   told_ill how bytes status.WriteFault read b =
-      (part_told source source' how bytes sink.took sink'.took read (some_of new.uses (items_of how bytes) new.state sink sink' status.WriteFault b), rises_on b.sheet.faults sink.faults sink'.faults b.ran.wrote.1 b.broke.wrote.1)
-  told_ill how bytes status.NoMemory read b = part_told source source' how bytes sink.took sink'.took read (some_of new.uses (items_of how bytes) new.state sink sink' status.NoMemory b)
+      (part_told source source' how bytes sink.took sink'.took sink'.whole read (some_of new.uses (items_of how bytes) new.state sink sink' status.WriteFault b), rises_on b.sheet.faults sink.faults sink'.faults b.ran.wrote.1 b.broke.wrote.1, b.broke.wrote.2)
+  told_ill how bytes status.NoMemory read b = part_told source source' how bytes sink.took sink'.took sink'.whole read (some_of new.uses (items_of how bytes) new.state sink sink' status.NoMemory b)
   told_ill how bytes status.Done read b = absurd b.broke.wrote
   told_ill how bytes status.Usage read b = absurd b.broke.wrote
   told_ill how bytes status.ReadFault read b = absurd b.broke.wrote

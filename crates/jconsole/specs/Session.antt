@@ -1,5 +1,5 @@
 -- The session of a script on one thread: what it wrote is the prints of a history of its sentences.
-use Rattle.std.specs.Prelude.{ℕ, ◌≡◌, ◌≤◌, ◌+◌, ◌⊎◌, List, [], ◌∷◌, ◌++◌, length, Option, Some, IfSome}
+use Rattle.std.specs.Prelude.{ℕ, ◌≡◌, ◌≤◌, ◌+◌, ◌⊎◌, List, [], ◌∷◌, ◌++◌, length, Bool, true, false, Option, Some, IfSome}
 use Rattle.std.specs.Io.{StartsWith}
 use Rattle.std.specs.Io.KnownBytes.{Appends, Consumes, IsAtEnd}
 use Rattle.jeval.specs.declared.state.State.{State}
@@ -25,9 +25,11 @@ main_program items = script_of 10000000 items
 abbrev pub WroteRun : (took took' : Option (List ℕ)) → List (List ℕ) → Type 0
 WroteRun took took' items = (h : List Entry) × OneThreadRun (main_program items) 0 h × Appends took took' (prints h)
 
--- the sink took a beginning of the prints of a history that the sentences and the desk make so far
-abbrev pub WrotePart : (took took' : Option (List ℕ)) → List (List ℕ) → Type 0
-WrotePart took took' items = (h : List Entry) × Legal 0 h × Faithful (main_program items) h × TookPart took took' (prints h)
+-- the sink took a beginning of the prints of a history that the sentences and the desk make so far, and all of them
+-- where it says that each write was answered All
+abbrev pub WrotePart : (took took' : Option (List ℕ)) → Bool → List (List ℕ) → Type 0
+WrotePart took took' whole items =
+    (h : List Entry) × Legal 0 h × Faithful (main_program items) h × TookPart took took' (prints h) × (whole ≡ true → Appends took took' (prints h))
 
 -- where the session broke off: the prints of the one-thread run of the first sentences were written, and a beginning of
 -- what the history has printed since, which is that of these sentences and of the one in progress, if there was one
@@ -50,8 +52,8 @@ pub record BrokeOff (took took' : Option (List ℕ)) (items : List (List ℕ)) :
   pub part : TookPart between took' late
 
 -- what a session that broke off wrote
-abbrev pub WroteSome : (took took' : Option (List ℕ)) → List (List ℕ) → Type 0
-WroteSome took took' items = WrotePart took took' items × BrokeOff took took' items
+abbrev pub WroteSome : (took took' : Option (List ℕ)) → Bool → List (List ℕ) → Type 0
+WroteSome took took' whole items = WrotePart took took' whole items × BrokeOff took took' items
 
 -- the bytes at the front of the script that were read
 abbrev pub IsFront : List ℕ → Option (List ℕ) → List ℕ → Type 0
@@ -74,9 +76,9 @@ Told source source' sink sink' status.TooLong =
     × WroteRun sink.took sink'.took (sentences (ended front)))
     × ReadPastLimit source.given source'.given × (sink'.whole ≡ sink.whole)
 Told source source' sink sink' status.WriteFault =
-    IfSome source.left (λ script. (items : List (List ℕ)) × AreItems script source'.left items × WroteSome sink.took sink'.took items) × Rises sink.faults sink'.faults
+    IfSome source.left (λ script. (items : List (List ℕ)) × AreItems script source'.left items × WroteSome sink.took sink'.took sink'.whole items) × Rises sink.faults sink'.faults × (sink'.whole ≡ false)
 Told source source' sink sink' status.NoMemory =
-    IfSome source.left (λ script. (items : List (List ℕ)) × AreItems script source'.left items × WroteSome sink.took sink'.took items)
+    IfSome source.left (λ script. (items : List (List ℕ)) × AreItems script source'.left items × WroteSome sink.took sink'.took sink'.whole items)
 Told source source' sink sink' status.Usage = ⊥
 
 -- no more bytes were given than were left

@@ -1,5 +1,5 @@
 //! The top call.
-ghost use Rattle.std.specs.Prelude.{◌≡◌, ◌≢◌, ◌≤◌, ◌↔◌, ◌⊎◌, [], ◌∷◌, ◌++◌, List, ℕ, IfSome, length};
+ghost use Rattle.std.specs.Prelude.{◌≡◌, ◌≢◌, ◌≤◌, ◌↔◌, ◌⊎◌, [], ◌∷◌, ◌++◌, List, ℕ, false, IfSome, length};
 ghost use Rattle.std.specs.Io.KnownBytes.{IsAtEnd};
 ghost use Rattle.jio.specs.Counts.{Rises};
 ghost use Rattle.jsession.specs.Items.{sentences, ended};
@@ -38,14 +38,15 @@ pub fn run_solo<S: Source, K: Sink>(
         IsFront bytes (S.left script.new) (front ++ last ∷ []) × WroteRun (K.took out.old) (K.took out.new) (sentences (ended front))) }
 
     // A failed write, or want of memory, leaves a beginning of the prints of a history of the items: all that the
-    // sentences before printed, and of the sentence in progress perhaps a part.
+    // sentences before printed, and of the sentence in progress perhaps a part; all where each write was answered All.
     ensures write_fault { result.status ≡ status.WriteFault → IfSome (S.left script.old) (λ bytes. (items : List (List ℕ)) ×
-        AreItems bytes (S.left script.new) items × WroteSome (K.took out.old) (K.took out.new) items) }
+        AreItems bytes (S.left script.new) items × WroteSome (K.took out.old) (K.took out.new) (K.whole out.new) items) }
     ensures no_memory { result.status ≡ status.NoMemory → IfSome (S.left script.old) (λ bytes. (items : List (List ℕ)) ×
-        AreItems bytes (S.left script.new) items × WroteSome (K.took out.old) (K.took out.new) items) }
+        AreItems bytes (S.left script.new) items × WroteSome (K.took out.old) (K.took out.new) (K.whole out.new) items) }
 
     // Each write was answered All, but for a failed one and want of memory.
     ensures whole { result.status ≢ status.WriteFault → result.status ≢ status.NoMemory → K.whole out.new ≡ K.whole out.old }
+    ensures cut { result.status ≡ status.WriteFault → K.whole out.new ≡ false }
 
     // Why they come.
     ensures read_cause { result.status ≡ status.ReadFault → Rises (S.faults script.old) (S.faults script.new) }

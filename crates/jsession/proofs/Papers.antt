@@ -37,8 +37,9 @@ pub wrote_further : {A B : Type 0} (p q r : Paper) (xs ys : List ℕ) (done : A)
 wrote_further p q r xs ys done (Ok last) h k = (appends_further p.took q.took r.took xs ys h.0 k.0, k.1 ∙ h.1, k.2 ∙ h.2)
 wrote_further p q r xs ys done (Err status.WriteFault) h k =
     let P : ℕ → Type 0 = λ n. Rises n r.faults in
-    (took_further p.took q.took r.took xs ys h.0 k.0, subst P h.1 k.1)
-wrote_further p q r xs ys done (Err status.NoMemory) h k = took_further p.took q.took r.took xs ys h.0 k
+    (took_further p.took q.took r.took xs ys h.0 k.0, subst P h.1 k.1, k.2)
+wrote_further p q r xs ys done (Err status.NoMemory) h k =
+    (took_further p.took q.took r.took xs ys h.0 k.0, λ whole. appends_further p.took q.took r.took xs ys h.0 (k.1 whole))
 wrote_further p q r xs ys done (Err status.Done) h k = absurd k
 wrote_further p q r xs ys done (Err status.Usage) h k = absurd k
 wrote_further p q r xs ys done (Err status.ReadFault) h k = absurd k

@@ -60,7 +60,7 @@ module _ {S : Type 0} (leads : S → List Entry → List ℕ → S → Type 0) (
   -- it halted, and the prints before that were written
   pub ran_halted : (u m v : S) (turns : ℕ) (line : List ℕ) (s s' : State) (r : Result (Shown × State) Halt) (bytes : List ℕ) (p q : Paper)
       → Runs leads refuses [] u m (sentence turns line s) r → leads m [] bytes v → Wrote p q bytes well → Ran leads u v (script turns (line ∷ []) s) s' p q (ill status.NoMemory)
-  ran_halted u m v turns line s s' r bytes p q h k w = ran_broken u m v turns line s s' r bytes p q status.NoMemory h k (took_all p.took q.took bytes w.0)
+  ran_halted u m v turns line s s' r bytes p q h k w = ran_broken u m v turns line s s' r bytes p q status.NoMemory h k (took_all p.took q.took bytes w.0, λ whole. w.0)
 
   comes_on : (turns : ℕ) (line : List ℕ) (lines : List (List ℕ)) (s s' s'' : State) (es fs : List Entry) (answer : Answer)
       → Ends (script turns (line ∷ []) s) (exchanges es) s' → ComesTo (script turns lines s') (exchanges fs) s'' answer → ComesTo (script turns (line ∷ lines) s) (exchanges (es ++ fs)) s'' answer
@@ -116,12 +116,13 @@ module _ {S : Type 0} (leads : S → List Entry → List ℕ → S → Type 0) (
       ran = ran_on u m other.mid turns line other.first s s' other.between p q other.sheet well one other.ran;
       all_out = inr (still_out m other.mid other.first other.all_out out);
       broke = other.broke;
+      none_left = other.none_left;
     }
 
     -- the session broke off in a sentence
     pub went_down : (u v : S) (turns : ℕ) (line : List ℕ) (lines : List (List ℕ)) (s s' : State) (p q : Paper) (why : Status)
-        → Ran leads u v (script turns (line ∷ []) s) s' p q (ill why) → Went leads drained turns u v (line ∷ lines) s s' p q (ill why)
-    went_down u v turns line lines s s' p q why one = record {
+        → Ran leads u v (script turns (line ∷ []) s) s' p q (ill why) → (q.whole ≡ true → drained v) → Went leads drained turns u v (line ∷ lines) s s' p q (ill why)
+    went_down u v turns line lines s s' p q why one out = record {
       first = [];
       now = line ∷ [];
       later = lines;
@@ -133,13 +134,14 @@ module _ {S : Type 0} (leads : S → List Entry → List ℕ → S → Type 0) (
       ran = ran_nothing u turns s p;
       all_out = inl (refl, refl);
       broke = one;
+      none_left = out;
     }
 
     -- nothing is left to run, and what was printed is written, or not
     pub went_out : (u v : S) (turns : ℕ) (s : State) (bytes : List ℕ) (p q : Paper) (answer : Answer)
-        → leads u [] bytes v → OnOk answer (drained v) → Wrote p q bytes answer → Went leads drained turns u v [] s s p q answer
-    went_out u v turns s bytes p q (Ok done) l out w = (ran_out u v turns s bytes p q well l w, out)
-    went_out u v turns s bytes p q (Err why) l out w = record {
+        → leads u [] bytes v → OnOk answer (drained v) → (q.whole ≡ true → drained v) → Wrote p q bytes answer → Went leads drained turns u v [] s s p q answer
+    went_out u v turns s bytes p q (Ok done) l out left w = (ran_out u v turns s bytes p q well l w, out)
+    went_out u v turns s bytes p q (Err why) l out left w = record {
       first = [];
       now = [];
       later = [];
@@ -151,6 +153,7 @@ module _ {S : Type 0} (leads : S → List Entry → List ℕ → S → Type 0) (
       ran = ran_nothing u turns s p;
       all_out = inl (refl, refl);
       broke = ran_out u v turns s bytes p q (ill why) l w;
+      none_left = left;
     }
 
     -- what comes of the rest comes of the whole

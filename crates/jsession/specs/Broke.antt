@@ -1,5 +1,5 @@
 -- Where a session broke off, and how far what it printed was written.
-use Rattle.std.specs.Prelude.{ℕ, ◌≡◌, ◌≤◌, ◌⊎◌, List, [], ◌++◌, length, Option, Result, Ok, Err}
+use Rattle.std.specs.Prelude.{ℕ, ◌≡◌, ◌≤◌, ◌⊎◌, true, List, [], ◌++◌, length, Result, Ok, Err}
 use Rattle.jeval.specs.declared.state.State.{State}
 use Rattle.jsession.specs.Ran.{Paper, Ran}
 use Rattle.jsession.specs.Script.{script}
@@ -31,6 +31,8 @@ pub record Broke {S : Type 0} (leads : S → List Entry → List ℕ → S → T
   pub ran : Ran leads old mid (script turns first state) between before sheet well
   pub all_out : ((first ≡ []) × (mid ≡ old)) ⊎ drained mid
   pub broke : Ran leads mid new (script turns now between) state' sheet after (ill why)
+  -- nothing that was printed is left where each write was answered All
+  pub none_left : after.whole ≡ true → drained new
 
 -- the sentences were run to their end and all was written, or the session broke off
 abbrev pub Went : {S : Type 0} → (S → List Entry → List ℕ → S → Type 0) → (S → Type 0) → ℕ → S → S → List (List ℕ) → State → State → Paper → Paper → Answer → Type 0

@@ -1,5 +1,5 @@
 -- What a session did: its uses, the prints that it wrote of them, and its status.
-use Rattle.std.specs.Prelude.{ℕ, ◌≡◌, Bool, List, [], Option, Result, Ok, Err}
+use Rattle.std.specs.Prelude.{ℕ, ◌≡◌, Bool, true, false, List, [], Option, Result, Ok, Err}
 use Rattle.std.specs.Io.KnownBytes.{Appends}
 use Rattle.jeval.specs.declared.state.State.{State}
 use Rattle.jio.specs.Counts.{Rises}
@@ -23,11 +23,12 @@ pub record Paper : Type 0 where
 abbrev pub paper : Option (List ℕ) → ℕ → Bool → Paper
 paper took faults whole = record { took = took; faults = faults; whole = whole }
 
--- the bytes were written, or a beginning of them after a failed write or for want of memory
+-- the bytes were written; after a failed write, or for want of memory, a beginning of them, and all of them where each
+-- write was answered All
 abbrev pub Wrote : {A : Type 0} → Paper → Paper → List ℕ → Result A Status → Type 0
 Wrote before after bytes (Ok done) = Appends before.took after.took bytes × (after.faults ≡ before.faults) × (after.whole ≡ before.whole)
-Wrote before after bytes (Err status.WriteFault) = TookPart before.took after.took bytes × Rises before.faults after.faults
-Wrote before after bytes (Err status.NoMemory) = TookPart before.took after.took bytes
+Wrote before after bytes (Err status.WriteFault) = TookPart before.took after.took bytes × Rises before.faults after.faults × (after.whole ≡ false)
+Wrote before after bytes (Err status.NoMemory) = TookPart before.took after.took bytes × (after.whole ≡ true → Appends before.took after.took bytes)
 Wrote before after bytes (Err status.Done) = ⊥
 Wrote before after bytes (Err status.Usage) = ⊥
 Wrote before after bytes (Err status.ReadFault) = ⊥

@@ -1,5 +1,5 @@
 //! Running the sentences of a script.
-ghost use Rattle.std.specs.Prelude.{◌≡◌, ◌≤◌, ◌∷◌, [], List, ℕ, OnOk};
+ghost use Rattle.std.specs.Prelude.{◌≡◌, ◌≤◌, ◌∷◌, [], List, ℕ, true, false, OnOk, OnErr};
 ghost use Rattle.jeval.specs.Made.{Runs, beside};
 ghost use Rattle.jeval.specs.Session.{moved_on};
 ghost use Rattle.jeval.specs.Showing.{sentence};
@@ -20,6 +20,7 @@ use std::alloc::Global;
 // Writes a piece, where there is something in it.
 fn send<K: Sink>(piece: &[u8], out: &mut K) -> Result<(), Status>
     ensures wrote { Wrote (paper (K.took out.old) (K.faults out.old) (K.whole out.old)) (paper (K.took out.new) (K.faults out.new) (K.whole out.new)) piece.now result }
+    ensures cut { OnErr result (K.whole out.new ≡ false) }
     ensures count { K.faults out.old ≤ K.faults out.new }
 {
     if piece.is_empty() {
@@ -44,6 +45,7 @@ fn cause_of(status: Status) -> Cause {
 fn send_prints<U: Uses, K: Sink>(eval: &mut Eval<U>, out: &mut K) -> Result<(), Status>
     ensures wrote { (bytes : List ℕ) × U.leads eval.old.uses [] bytes eval.new.uses × Wrote (paper (K.took out.old) (K.faults out.old) (K.whole out.old)) (paper (K.took out.new) (K.faults out.new) (K.whole out.new)) bytes result }
     ensures all { OnOk result (U.drained eval.new.uses) }
+    ensures none_left { K.whole out.new ≡ true → U.drained eval.new.uses }
     ensures same { eval.new ≡ moved_on eval.old eval.new.uses eval.old.state }
     ensures count { K.faults out.old ≤ K.faults out.new }
 {
@@ -81,6 +83,7 @@ fn run_sentence<U: Uses, K: Sink>(
     requires { eval.old.who ≡ [] }
     ensures ran { Ran U.leads eval.old.uses eval.new.uses (script eval.old.turns (line.now ∷ []) eval.old.state) eval.new.state (paper (K.took out.old) (K.faults out.old) (K.whole out.old)) (paper (K.took out.new) (K.faults out.new) (K.whole out.new)) result }
     ensures all { OnOk result (U.drained eval.new.uses) }
+    ensures none_left { K.whole out.new ≡ true → U.drained eval.new.uses }
     ensures same { eval.new ≡ moved_on eval.old eval.new.uses eval.new.state }
     ensures count { K.faults out.old ≤ K.faults out.new }
 {

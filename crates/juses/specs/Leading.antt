@@ -1,10 +1,8 @@
 -- Which entries lead from one desk to another, on one thread, and which printed bytes were handed out on the way.
-use Rattle.std.specs.Prelude.{◌≡◌, ◌≤◌, ◌+◌, ℕ, List, [], ◌∷◌, ◌++◌, length, take, drop}
-use Rattle.std.proofs.Common.{refl, sym, subst, ap, ◌∙◌, append_assoc, append-nil, arith}
-use Rattle.std.proofs.Math.Seq.{take-length}
-use Rattle.std.proofs.lemmas.List.{take-append-drop}
-use Rattle.juses.specs.Desk.{State, moved, bytes_of}
-use Rattle.juses.specs.Standing.{Kept, Stands, HandsOut}
+use Rattle.std.specs.Prelude.{◌≡◌, ℕ, List, [], ◌∷◌, ◌++◌, take}
+use Rattle.std.proofs.Common.{refl, sym, subst, ap, ◌∙◌, append_assoc, append-nil}
+use Rattle.juses.specs.Desk.{State, moved}
+use Rattle.juses.specs.Standing.{Kept, Stands}
 use Rattle.juses.specs.OldestFirst.{taken, RepliedOn}
 use Rattle.juses.specs.declared.uses.Entry.{Entry}
 

@@ -1,4 +1,3 @@
-use Rattle.std.proofs.Common.{Err}
 use Rattle.jeval.specs.Showing.{sentence}
 use Rattle.jeval.proofs.Runs.{rests}
 use Rattle.jeval.proofs.eval.sentence_of.Goals as goal

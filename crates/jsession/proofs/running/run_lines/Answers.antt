@@ -27,7 +27,7 @@ returns-in-Err-clause-went g c =
     let split : sentences c.loop-rest.rest.now ≡ c.next_line-line.result.text.now ∷ sentences c.next_line-line.result.rest.now = rw (c.next_line-line.ensures.lines, sym c.if-not-is_sentence.ensures) refl in
     let P : ℕ → Type 0 = λ n. Ran g.U.Uses.leads c.loop-rest.eval.uses c.run_sentence.new.eval.uses (script n (c.next_line-line.result.text.now ∷ []) c.loop-rest.eval.state) c.run_sentence.new.eval.state (paper (g.K.Sink.took c.loop-rest.out) (g.K.Sink.faults c.loop-rest.out) (g.K.Sink.whole c.loop-rest.out)) (paper (g.K.Sink.took c.run_sentence.new.out) (g.K.Sink.faults c.run_sentence.new.out) (g.K.Sink.whole c.run_sentence.new.out)) (ill c.in-Err.status) in
     c.loop-rest.invariant.stage c.run_sentence.new.eval.uses c.run_sentence.new.eval.state (paper (g.K.Sink.took c.run_sentence.new.out) (g.K.Sink.faults c.run_sentence.new.out) (g.K.Sink.whole c.run_sentence.new.out)) (ill c.in-Err.status) (rw split (went_down g.U.Uses.leads g.U.Uses.refuses g.met.U.Uses.stays g.met.U.Uses.joins g.U.Uses.drained c.loop-rest.eval.uses c.run_sentence.new.eval.uses T c.next_line-line.result.text.now (sentences c.next_line-line.result.rest.now)
-    c.loop-rest.eval.state c.run_sentence.new.eval.state (paper (g.K.Sink.took c.loop-rest.out) (g.K.Sink.faults c.loop-rest.out) (g.K.Sink.whole c.loop-rest.out)) (paper (g.K.Sink.took c.run_sentence.new.out) (g.K.Sink.faults c.run_sentence.new.out) (g.K.Sink.whole c.run_sentence.new.out)) c.in-Err.status (subst P kept c.in-Err.ensures.ran)))
+    c.loop-rest.eval.state c.run_sentence.new.eval.state (paper (g.K.Sink.took c.loop-rest.out) (g.K.Sink.faults c.loop-rest.out) (g.K.Sink.whole c.loop-rest.out)) (paper (g.K.Sink.took c.run_sentence.new.out) (g.K.Sink.faults c.run_sentence.new.out) (g.K.Sink.whole c.run_sentence.new.out)) c.in-Err.status (subst P kept c.in-Err.ensures.ran) c.in-Err.ensures.none_left))
 
 pub returns-clause-went : goal.returns-clause-went
 returns-clause-went g c =
@@ -36,4 +36,4 @@ returns-clause-went g c =
     rw is (c.loop-rest.invariant.stage c.send_prints.new.eval.uses c.loop-rest.eval.state (paper (g.K.Sink.took c.send_prints.new.out) (g.K.Sink.faults c.send_prints.new.out) (g.K.Sink.whole c.send_prints.new.out)) c.send_prints.result
     (rw none (went_out g.U.Uses.leads g.U.Uses.refuses g.met.U.Uses.stays g.met.U.Uses.joins g.U.Uses.drained c.loop-rest.eval.uses c.send_prints.new.eval.uses c.args.eval.now.turns c.loop-rest.eval.state c.send_prints.ensures.wrote.0
     (paper (g.K.Sink.took c.loop-rest.out) (g.K.Sink.faults c.loop-rest.out) (g.K.Sink.whole c.loop-rest.out)) (paper (g.K.Sink.took c.send_prints.new.out) (g.K.Sink.faults c.send_prints.new.out) (g.K.Sink.whole c.send_prints.new.out)) c.send_prints.result
-    c.send_prints.ensures.wrote.1 c.send_prints.ensures.all c.send_prints.ensures.wrote.2)))
+    c.send_prints.ensures.wrote.1 c.send_prints.ensures.all c.send_prints.ensures.none_left c.send_prints.ensures.wrote.2)))
