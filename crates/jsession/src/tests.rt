@@ -78,3 +78,18 @@ fn scripts_and_their_ends(rt: HostRuntime) -> Result<(), Fail> {
     }
     Ok(())
 }
+
+#[test]
+fn a_line_too_long_between_others(rt: HostRuntime) -> Result<(), Fail> {
+    let long = vec![in rt.alloc(); b' '; 65_537]?;
+    let mut script = Vec::from_slice(rt.alloc(), b"1\n")?;
+    script.extend_from_slice(&long)?;
+    script.extend_from_slice(b"\n2\n")?;
+    let session = run_script(rt.alloc(), &script, 65_536, 0, 0)?;
+    assert_eq!(rt; session.status, Status::Done);
+    assert_eq!(rt;
+        session.written.as_slice(),
+        b"1\n|limit error\n|   \n2\n".as_slice()
+    );
+    Ok(())
+}
