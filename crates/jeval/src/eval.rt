@@ -1,12 +1,11 @@
 //! The evaluator of an activity.
 ghost use Rattle.std.specs.Prelude.{◌≡◌, [], length, IfOk, IfErr};
+ghost use Rattle.juses.specs.Closing.{ClosedWith};
 ghost use Rattle.juses.specs.Program.{Ask, Return};
 ghost use Rattle.jeval.specs.Applying.{applied, most_levels};
 ghost use Rattle.jeval.specs.Built.{queue_of};
 ghost use Rattle.jeval.specs.Made.{Refused, Runs, Makes, ClosedAt, ClosedAtEnd, beside};
 ghost use Rattle.jeval.specs.Showing as showing;
-ghost use Rattle.juses.specs.declared.uses.Cause.{Cause};
-ghost use Rattle.juses.specs.declared.uses.Halt.TheVariants as halt;
 ghost use Rattle.jeval.specs.declared.eval.Shown.TheVariants as shown;
 ghost use Rattle.jeval.specs.declared.state.State.{State};
 
@@ -292,7 +291,7 @@ impl<U: Uses> Eval<U> {
     /// Closes the session. The first cause counts.
     pub fn close(&mut self, cause: Cause)
         ensures uses { U.leads self.old.uses [] [] self.new.uses }
-        ensures closed { (first : Cause) × U.refuses self.new.uses (halt.Closed first) }
+        ensures closed { ClosedWith U.refuses self.old.uses self.new.uses cause }
         ensures same { self.new ≡ moved_on self.old self.new.uses self.old.state }
     {
         self.uses.close(cause);

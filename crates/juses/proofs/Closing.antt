@@ -1,13 +1,15 @@
 -- A desk that was closed refuses each use by its first cause.
-use Rattle.std.proofs.Common.{◌≡◌, ◌∙◌, Option, Some, None, ap, refl}
-use Rattle.juses.specs.Standing.{Kept, first_cause, closed_by}
+use Rattle.std.proofs.Common.{◌≡◌, ◌∙◌, ◌⊎◌, inl, inr, Option, Some, None, ap, refl}
+use Rattle.juses.specs.Closing.{ClosedWith}
+use Rattle.juses.specs.Standing.{Kept, Refuses, first_cause, closed_by}
 use Rattle.juses.specs.declared.uses.Cause.{Cause}
 
-first_of : (earlier : Option Cause) (cause : Cause) → (first : Cause) × (first_cause earlier cause ≡ Some first)
-first_of None cause = (cause, refl)
-first_of (Some first) cause = (first, refl)
+first_of : (earlier : Option Cause) (cause : Cause) → (first_cause earlier cause ≡ Some cause) ⊎ ((first : Cause) × (earlier ≡ Some first) × (first_cause earlier cause ≡ Some first))
+first_of None cause = inl refl
+first_of (Some first) cause = inr (first, refl, refl)
 
-pub closed_first : (d d' : Kept) (cause : Cause) → d' ≡ closed_by d cause → (first : Cause) × (d'.closed ≡ Some first)
-closed_first d d' cause h =
-    let found = first_of d.closed cause in
-    (found.0, ap (λ (k : Kept). k.closed) h ∙ found.1)
+pub closed_first : (d d' : Kept) (cause : Cause) → d' ≡ closed_by d cause → ClosedWith Refuses d d' cause
+closed_first d d' cause h = elim (first_of d.closed cause) [
+    inl now ↦ inl (ap (λ (k : Kept). k.closed) h ∙ now)
+  | inr before ↦ inr (before.0, before.1, ap (λ (k : Kept). k.closed) h ∙ before.2)
+]

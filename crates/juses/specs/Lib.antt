@@ -7,3 +7,4 @@ pub mod Standing
 pub mod Keeping
 pub mod OldestFirst
 pub mod Leading
+pub mod Closing

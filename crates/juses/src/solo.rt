@@ -1,12 +1,11 @@
 //! A session on one thread.
 ghost use Rattle.std.specs.Prelude.{◌≡◌, [], ◌∷◌, IfOk, IfErr, OnOk, OnErr};
+ghost use Rattle.juses.specs.Closing.{ClosedWith};
 ghost use Rattle.juses.specs.Desk.{first};
 ghost use Rattle.juses.specs.Entries.{entry};
 ghost use Rattle.juses.specs.Keeping.{first_kept};
 ghost use Rattle.juses.specs.Leading.{Leads, leads_nowhere, leads_on};
 ghost use Rattle.juses.specs.Standing.{Stands, OnlyMoves, HaltsRightly, Refuses, HandsOut, handed_out, closed_by};
-ghost use Rattle.juses.specs.declared.uses.Cause.{Cause};
-ghost use Rattle.juses.specs.declared.uses.Halt.TheVariants as halt;
 
 use crate::desk::Desk;
 use crate::uses::{Cause, Halt, Reply, Use, Uses};
@@ -85,7 +84,7 @@ impl Uses for Solo {
     /// Closes the session. The first cause counts.
     fn close(&mut self, cause: Cause)
         ensures leads { Leads self.old [] [] self.new }
-        ensures closed { (first : Cause) × Refuses self.new (halt.Closed first) }
+        ensures closed { ClosedWith Refuses self.old self.new cause }
         ensures first { self.new ≡ closed_by self.old cause }
     {
         self.desk.close(cause);

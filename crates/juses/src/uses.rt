@@ -1,9 +1,8 @@
 //! Uses, replies and entries.
 ghost use Rattle.std.specs.Prelude.{◌≡◌, List, [], ◌∷◌, ◌++◌, ℕ, IfOk, IfErr, OnErr};
-ghost use Rattle.juses.specs.declared.uses.Cause.{Cause};
+ghost use Rattle.juses.specs.Closing.{ClosedWith};
 ghost use Rattle.juses.specs.declared.uses.Entry.{Entry};
 ghost use Rattle.juses.specs.declared.uses.Halt.{Halt};
-ghost use Rattle.juses.specs.declared.uses.Halt.TheVariants as halt;
 ghost use Rattle.juses.specs.Entries.{entry};
 
 use jdata::{Bytes, Name, Path};
@@ -94,7 +93,7 @@ pub trait Uses {
     /// Closes the session, so that no later use is answered. The first cause counts.
     fn close(&mut self, cause: Cause)
         ensures leads { leads self.old [] [] self.new }
-        ensures closed { (first : Cause) × refuses self.new (halt.Closed first) };
+        ensures closed { ClosedWith refuses self.old self.new cause };
 
     ghost stays: { (s : Self) → leads s [] [] s };
 
