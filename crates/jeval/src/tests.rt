@@ -316,6 +316,20 @@ fn the_longest_line(rt: HostRuntime) -> Result<(), Fail> {
     Ok(())
 }
 
+#[test]
+fn parentheses_in_parentheses(rt: HostRuntime) -> Result<(), Fail> {
+    let mut line = vec![in rt.alloc(); b'('; 300]?;
+    line.push(b'1')?;
+    line.extend_from_slice(&vec![in rt.alloc(); b')'; 300]?)?;
+    let mut eval = begin(rt.alloc(), 300)?;
+    let ran = eval.sentence(&[Bytes::of(line)]);
+    let prints = eval.take_prints();
+    eval.finish();
+    assert_eq!(rt; ran, Ok(Shown::Printed));
+    assert_eq!(rt; prints.items(), b"1\n".as_slice());
+    Ok(())
+}
+
 fn apply(eval: &mut Eval<Solo>, verb: &Term, x: Option<i64>, y: i64) -> Result<Option<i64>, EvalEnd>
     requires { IsVerb verb.now }
 {

@@ -61,6 +61,9 @@ fn scripts_and_their_ends(rt: HostRuntime) -> Result<(), Fail> {
         ("1\n2\n3\n", 64, 0, 1, Status::WriteFault, ""),
         ("1\n2\n3\n", 64, 0, 2, Status::WriteFault, "1\n"),
         ("1\n2\n3\n", 64, 0, 3, Status::WriteFault, "1\n2\n"),
+        ("1\n2\n3\n", 64, 0, 4, Status::Done, "1\n2\n3\n"),
+        // both
+        ("1\n2\n3\n", 1, 5, 2, Status::WriteFault, "1\n"),
         // a fault doesn't end the session, and a silent sentence isn't written
         (
             "x\ny =: 1\n1\n",
