@@ -13,7 +13,8 @@ use Rattle.std.proofs.lemmas.List.{take-append-drop, take_more_set, drop-set-lt,
 use Rattle.std.proofs.lemmas.Grind.{drop_more_same}
 use Rattle.std.proofs.lemmas.Nat.{div-mul-add}
 use Rattle.jdata.specs.declared.fault.Fault.{Fault}
-use Rattle.jdyad.specs.Atoms.{all_or_first, in_front, by_place, in_place}
+use Rattle.jdyad.specs.Atoms.{by_place}
+use Rattle.jarray.specs.Numbers.{in_place, all_or_first, in_front}
 
 -- at the first places, so many of them, stand these numbers
 abbrev pub Gives : (ℕ → Result ℤ Fault) → ℕ → List ℤ → Type 0

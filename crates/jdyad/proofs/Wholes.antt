@@ -28,8 +28,9 @@ use Rattle.jdata.specs.declared.primitive.Primitive.{Primitive}
 use Rattle.jarray.specs.Answers.{Answers}
 use Rattle.jarray.specs.Matches.{kinds_match}
 use Rattle.jdyad.specs.Agreement.{is_prefix, longer, repeated}
-use Rattle.jdyad.specs.Atoms.{is_comparison, by_place, all_or_first, in_front}
-use Rattle.jdyad.specs.Dyads.{scalar_dyad, takes, is_integers, spread, integers, of_shape}
+use Rattle.jdyad.specs.Atoms.{is_comparison, by_place}
+use Rattle.jarray.specs.Numbers.{all_or_first, in_front, is_integers, integers}
+use Rattle.jdyad.specs.Dyads.{scalar_dyad, takes, spread, of_shape}
 
 both : (a b : Bool) → (a && b) ≡ true → (a ≡ true) × (b ≡ true)
 both true true e = (refl, refl)

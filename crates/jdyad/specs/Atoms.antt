@@ -1,5 +1,5 @@
 -- A scalar dyad on two atoms, which needn't be integers (NuVoc "=" Equal, "~:" Not-Equal), and place by place.
-use Rattle.std.specs.Prelude.{ℕ, Bool, true, false, not, ℤ, Result, Ok, Err, List, [], ◌∷◌, map}
+use Rattle.std.specs.Prelude.{ℕ, Bool, true, false, not, ℤ, Result, Ok, Err, List, map}
 use Rattle.std.specs.List.{range_with_len}
 use Rattle.jdata.specs.declared.fault.Fault.{Fault}
 use Rattle.jdata.specs.declared.fault.Fault.TheVariants.{Domain}
@@ -11,6 +11,7 @@ use Rattle.jdata.specs.declared.noun.Atom.TheOpen as one
 use Rattle.jscalar.specs.Truths.{truth}
 use Rattle.jscalar.specs.Dyads.{two_of}
 use Rattle.jarray.specs.Matches.{equal_atoms}
+use Rattle.jarray.specs.Numbers.{all_or_first}
 
 -- the verbs that take any kind
 unfoldable pub is_comparison : Primitive → Bool
@@ -32,21 +33,6 @@ of_layers verb equal left right = compared verb equal
 unfoldable pub of_atoms : Primitive → Atom → Atom → Result ℤ Fault
 of_atoms verb a b = of_layers verb (equal_atoms a b) (out-Atom a) (out-Atom b)
 
-abbrev pub in_front : ℤ → Result (List ℤ) Fault → Result (List ℤ) Fault
-in_front n (Ok rest) = Ok (n ∷ rest)
-in_front n (Err fault) = Err fault
-
--- all the numbers, or the first fault
-abbrev pub all_or_first : List (Result ℤ Fault) → Result (List ℤ) Fault
-all_or_first [] = Ok []
-all_or_first (Ok n ∷ rest) = in_front n (all_or_first rest)
-all_or_first (Err fault ∷ rest) = Err fault
-
 -- what is at the first places, so many of them
 unfoldable pub by_place : (ℕ → Result ℤ Fault) → ℕ → Result (List ℤ) Fault
 by_place at count = all_or_first (map at (range_with_len 0 count))
-
--- a list that was changed in place, or the fault that ended it
-abbrev pub in_place : {Done : Type 0} → Result Done Fault → List ℤ → Result (List ℤ) Fault
-in_place (Ok done) numbers = Ok numbers
-in_place (Err fault) numbers = Err fault

@@ -1,20 +1,15 @@
 -- The scalar dyads on arrays (NuVoc, the dyads of ranks 0 0; "Agreement"; "=" Equal and "~:" Not-Equal for the kinds).
-use Rattle.std.specs.Prelude.{ℕ, ◌/◌, pos, Bool, ◌&&◌, ◌||◌, if◌then◌else◌, ℤ, Option, Some, None, Result, Ok, Err, List, map, slice_index_or}
-use Rattle.jdata.specs.Noun.{noun, shape, kind, atoms, product}
+use Rattle.std.specs.Prelude.{ℕ, ◌/◌, pos, Bool, ◌&&◌, ◌||◌, if◌then◌else◌, ℤ, Option, Some, None, Result, Err, List, slice_index_or}
+use Rattle.jdata.specs.Noun.{shape, atoms, product}
 use Rattle.jdata.specs.declared.fault.Fault.{Fault}
 use Rattle.jdata.specs.declared.fault.Fault.TheVariants.{Domain, Length}
 use Rattle.jdata.specs.declared.primitive.Primitive.{Primitive}
 use Rattle.jdata.specs.declared.noun.Noun.{Noun}
-use Rattle.jdata.specs.declared.noun.Kind.TheVariants as sort
 use Rattle.jdata.specs.declared.noun.Atom.{Atom}
 use Rattle.jdata.specs.declared.noun.Atom.TheVariants as atom
-use Rattle.jarray.specs.Matches.{kinds_match}
+use Rattle.jarray.specs.Numbers.{is_integers, integers}
 use Rattle.jdyad.specs.Agreement.{longer, repeated}
 use Rattle.jdyad.specs.Atoms.{is_comparison, of_atoms, by_place}
-
--- an argument without atoms passes every test of kind
-abbrev pub is_integers : Noun → Bool
-is_integers v = kinds_match (kind v) sort.Int (atoms v)
 
 abbrev pub takes : Primitive → Noun → Noun → Bool
 takes verb x y = is_comparison verb || (is_integers x && is_integers y)
@@ -26,11 +21,6 @@ atom_for atoms cell j = slice_index_or atoms (j / cell) (atom.Int (pos 0))
 -- the verb on the atoms of both, each repeated so many times
 abbrev pub spread : Primitive → List Atom → ℕ → List Atom → ℕ → ℕ → Result ℤ Fault
 spread verb xs left ys right j = of_atoms verb (atom_for xs left j) (atom_for ys right j)
-
--- the integers of this shape
-abbrev pub integers : List ℕ → Result (List ℤ) Fault → Result Noun Fault
-integers axes (Ok numbers) = Ok (noun axes sort.Int (map atom.Int numbers))
-integers axes (Err fault) = Err fault
 
 -- atom by atom in ravel order of the whole, where the shapes agree on one
 abbrev pub of_shape : Primitive → Noun → Noun → Option (List ℕ) → Result Noun Fault

@@ -2,6 +2,7 @@
 
 ghost use Rattle.std.specs.Prelude.{◌≡◌};
 ghost use Rattle.jdyad.specs.Atoms as atoms;
+ghost use Rattle.jarray.specs.Numbers.{is_integers};
 ghost use Rattle.jdyad.specs.Dyads as dyads;
 
 use jarray::{Array, Items};
@@ -21,7 +22,7 @@ fn is_comparison(verb: Primitive) -> bool
 }
 
 fn is_integers(array: &Array) -> bool
-    ensures { result ≡ dyads.is_integers array.now }
+    ensures { result ≡ is_integers array.now }
 {
     match array.items() {
         Items::Int(_) => true,

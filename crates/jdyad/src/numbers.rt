@@ -3,7 +3,8 @@
 
 ghost use Rattle.std.specs.Prelude.{◌≡◌, ◌*◌, ◌/◌, ◌<◌, true, pos, length, slice_index_or};
 ghost use Rattle.jscalar.specs.Dyads.{is_scalar_dyad, two_of};
-ghost use Rattle.jdyad.specs.Atoms.{by_place, in_place};
+ghost use Rattle.jdyad.specs.Atoms.{by_place};
+ghost use Rattle.jarray.specs.Numbers.{in_place};
 ghost use Rattle.jdyad.specs.Table.{verbs, numbered, sided};
 
 use crate::place::Place;

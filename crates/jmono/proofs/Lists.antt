@@ -7,7 +7,7 @@ use Rattle.std.specs.Prelude.{ℤ}
 use Rattle.jdata.specs.Noun.{noun, shape, atoms, level, int_atom, product}
 use Rattle.jdata.specs.Limits.{IsArray}
 use Rattle.jdata.proofs.Levels.{level_is, level_of_ints}
-use Rattle.jmono.specs.InPlace.{in_place}
+use Rattle.jarray.specs.Numbers.{in_place, in_front, all_or_first, integers}
 use Rattle.jdata.specs.Trees.{noun_of, atoms_of}
 use Rattle.jdata.specs.declared.fault.Fault.{Fault}
 use Rattle.jdata.specs.declared.fault.Fault.TheVariants.{Domain}
@@ -18,7 +18,7 @@ use Rattle.jdata.specs.declared.noun.Atom.TheVariants as atom
 use Rattle.jdata.specs.declared.tree.Leaves.{Leaves}
 use Rattle.jdata.specs.declared.tree.Leaves.TheVariants as leaf
 use Rattle.jscalar.specs.Monads.{one_of}
-use Rattle.jmono.specs.Monads.{of_atom, of_layer, in_front, all_or_first, integers, scalar_monad}
+use Rattle.jmono.specs.Monads.{of_atom, of_layer, scalar_monad}
 
 -- ---- lists of results
 
@@ -32,11 +32,9 @@ behind_one before n (Ok rest) = ap Ok (append_assoc before (n ∷ []) rest)
 behind_one before n (Err fault) = refl
 
 first_result : (r : Result ℤ Fault) (n : ℤ) (rest : List (Result ℤ Fault)) → r ≡ Ok n → all_or_first (r ∷ rest) ≡ in_front n (all_or_first rest)
-unfolding all_or_first
 first_result r n rest e = rw e refl
 
 first_fault : (r : Result ℤ Fault) (f : Fault) (rest : List (Result ℤ Fault)) → r ≡ Err f → all_or_first (r ∷ rest) ≡ Err f
-unfolding all_or_first
 first_fault r f rest e = rw e refl
 
 -- one turn: the next number has a result
@@ -55,7 +53,6 @@ stop verb old i d f before l e =
     ap (behind before) (ap (λ xs. all_or_first (map (one_of verb) xs)) (drop_more old i d l) ∙ first_fault (one_of verb (get_or old i d)) f (map (one_of verb) (drop (i + 1) old)) e)
 
 pub end : (verb : Primitive) (old now : List ℤ) (i : ℕ) → length old ≤ i → behind now (all_or_first (map (one_of verb) (drop i old))) ≡ Ok now
-unfolding all_or_first
 end verb old now i l = rw (drop_all i old l) (ap Ok (append-nil now))
 
 pub same_item : (xs ys : List ℤ) (i : ℕ) (d : ℤ) → i < length xs → i < length ys → drop i xs ≡ drop i ys → get_or xs i d ≡ get_or ys i d
@@ -80,11 +77,9 @@ of_integers verb axes [] = refl
 of_integers verb axes (n ∷ ns) = ap (λ rs. integers axes (all_or_first rs)) (atoms_of_integers verb (n ∷ ns))
 
 pub of_integer : (verb : Primitive) (n m : ℤ) → one_of verb n ≡ Ok m → scalar_monad verb (int_atom n) ≡ Ok (int_atom m)
-unfolding all_or_first
 of_integer verb n m e = of_integers verb [] (n ∷ []) ∙ ap (λ r. integers [] (all_or_first (r ∷ []))) e
 
 pub of_integer_fault : (verb : Primitive) (n : ℤ) (f : Fault) → one_of verb n ≡ Err f → scalar_monad verb (int_atom n) ≡ Err f
-unfolding all_or_first
 of_integer_fault verb n f e = of_integers verb [] (n ∷ []) ∙ ap (λ r. integers [] (all_or_first (r ∷ []))) e
 
 -- leaves that aren't integers
@@ -93,7 +88,7 @@ IsOther (leaf.Int xs) = ⊥
 IsOther other = Unit {0}
 
 pub of_no_atoms : (verb : Primitive) (axes : List ℕ) (l : Leaves) → length (atoms_of l) ≡ 0 → scalar_monad verb (noun_of axes l) ≡ Ok (noun axes sort.Int [])
-unfolding scalar_monad all_or_first
+unfolding scalar_monad
 of_no_atoms verb axes (leaf.Int []) e = refl
 of_no_atoms verb axes (leaf.Char []) e = refl
 of_no_atoms verb axes (leaf.Cell []) e = refl

@@ -1,2 +1,1 @@
 pub mod Monads
-pub mod InPlace

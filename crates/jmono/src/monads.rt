@@ -8,7 +8,8 @@ ghost use Rattle.jdata.specs.declared.noun.Kind.TheVariants as sort;
 ghost use Rattle.jdata.specs.declared.noun.Atom.TheVariants as atom;
 ghost use Rattle.jscalar.specs.Monads.{is_scalar_monad, one_of};
 ghost use Rattle.jarray.specs.Answers.{Answers};
-ghost use Rattle.jmono.specs.Monads.{integers, all_or_first, scalar_monad};
+ghost use Rattle.jmono.specs.Monads.{scalar_monad};
+ghost use Rattle.jarray.specs.Numbers.{integers, all_or_first};
 
 use crate::numbers::apply_each;
 use jarray::{Array, Form, Room};

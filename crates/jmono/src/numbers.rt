@@ -2,8 +2,7 @@
 
 ghost use Rattle.std.specs.Prelude.{◌≡◌, true, map, Result, Ok, Err};
 ghost use Rattle.jscalar.specs.Monads.{is_scalar_monad, one_of};
-ghost use Rattle.jmono.specs.Monads.{all_or_first};
-ghost use Rattle.jmono.specs.InPlace.{in_place};
+ghost use Rattle.jarray.specs.Numbers.{all_or_first, in_place};
 
 use jdata::{Fault, Primitive};
 use jscalar::one;

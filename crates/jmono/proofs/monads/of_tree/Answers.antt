@@ -4,7 +4,8 @@ use Rattle.jdata.specs.Trees.{noun_of}
 use Rattle.jdata.specs.declared.noun.Kind.TheVariants as sort
 use Rattle.jdata.specs.declared.noun.Atom.TheVariants as atom
 use Rattle.jarray.specs.Answers.{Answers}
-use Rattle.jmono.specs.Monads.{integers, all_or_first, scalar_monad}
+use Rattle.jmono.specs.Monads.{scalar_monad}
+use Rattle.jarray.specs.Numbers.{integers, all_or_first}
 use Rattle.jscalar.specs.Monads.{one_of}
 use Rattle.jmono.proofs.Lists.{of_integers, of_no_atoms, of_others, not_integers, size_of, empty_within}
 use Rattle.jmono.proofs.monads.of_tree.Goals as goal

@@ -4,7 +4,7 @@ use Rattle.std.proofs.lemmas.Grind.{common_steps}
 use Rattle.std.specs.Prelude.{pos, FitsSigned}
 use mir.Syntax.{w64}
 use Rattle.jscalar.specs.Monads.{one_of}
-use Rattle.jmono.specs.Monads.{all_or_first}
+use Rattle.jarray.specs.Numbers.{all_or_first}
 use Rattle.std.proofs.lemmas.List.{take_all}
 use Rattle.jmono.proofs.Lists.{turn, stop, end, same_item, behind}
 use Rattle.jmono.proofs.numbers.apply_each.Goals as goal

@@ -1,6 +1,6 @@
 use Rattle.std.proofs.Common.{◌≡◌, map, take, drop, length}
 use Rattle.jscalar.specs.Monads.{one_of}
-use Rattle.jmono.specs.Monads.{all_or_first}
+use Rattle.jarray.specs.Numbers.{all_or_first}
 use Rattle.jmono.proofs.Lists.{behind}
 use Rattle.jmono.proofs.numbers.apply_each.Given as goal
 
