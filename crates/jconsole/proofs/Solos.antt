@@ -9,7 +9,7 @@ use Rattle.jio.specs.Sink.{TookPart}
 use Rattle.jsession.specs.Broke.{Broke, ill}
 use Rattle.jsession.specs.Ran.{Paper, Wrote}
 use Rattle.jsession.proofs.Papers.{nothing_appended}
-use Rattle.jsession.proofs.Programs.{ends_begins, script_begins, both_of, exchanged}
+use Rattle.jsession.proofs.Programs.{script_begins}
 use Rattle.jsession.proofs.Sessions.{ran_of_broke}
 use Rattle.jsession.specs.declared.status.Status.{Status}
 use Rattle.jsession.specs.declared.status.Status.TheVariants as status
@@ -25,6 +25,8 @@ use Rattle.juses.specs.declared.uses.Halt.{Halt}
 use Rattle.juses.specs.declared.uses.Reply.{Reply}
 use Rattle.juses.specs.declared.uses.Use.{Use}
 use Rattle.juses.proofs.Desks.{first_stands}
+use Rattle.juses.proofs.Programs.{both_of, exchanged}
+use Rattle.juses.proofs.Traces.{begins_ended}
 use Rattle.juses.proofs.Runs.{legal_onto, legal_run, faithful_run, faithful_history, complete_history, after_onto, printed_after, whole_run}
 use Rattle.jconsole.specs.Session.{main_program, WroteRun, WrotePart, BrokeOff, WroteSome}
 
@@ -90,7 +92,7 @@ module _ (d : Kept) (es : List Entry) (bytes : List ℕ) (main : AllOf [] es) (l
 
   pub is_run : (items : List (List ℕ)) (state : State) → Ends (main_program items) (exchanges es) state → OneThreadRun (main_program items) 0 (history es)
   is_run items state ended =
-      let begun = ends_begins (main_program items) (exchanges es) state ended in
+      let begun = begins_ended (main_program items) (exchanges es) state ended in
       whole_run (main_program items) 0 (history es) is_legal (faithful_history (main_program items) es main begun) (complete_history (main_program items) es state main ended)
 
   pub whole_of : (items : List (List ℕ)) (took took' : Option (List ℕ)) (state : State) → Ends (main_program items) (exchanges es) state → d.waiting ≡ [] → Appends took took' bytes → WroteRun took took' items

@@ -14,7 +14,7 @@ use Rattle.jsession.specs.declared.reading.Reading.{Reading}
 use Rattle.jsession.specs.declared.reading.Reading.TheVariants as how
 use Rattle.jsession.specs.declared.status.Status.{Status}
 use Rattle.jsession.specs.declared.status.Status.TheVariants as status
-use Rattle.jsession.proofs.Programs.{ends_begins}
+use Rattle.juses.proofs.Traces.{begins_ended}
 use Rattle.jsession.proofs.Papers.{took_all, nothing_appended}
 use Rattle.juses.specs.Keeping.{first_kept}
 use Rattle.juses.specs.Leading.{Leads}
@@ -112,7 +112,7 @@ module _ (source source' : Side) (sink sink' : Paper) (old new : Session Kept) (
       let Q : List ℕ → Type 0 = λ zs. Consumes source.left source'.left zs in
       (long_given source.left source'.left bytes read.reason.0 (λ front. WroteRun sink.took sink'.took (sentences (ended front))) (subst Q read.reason.1 read.consumed) read.reason.2 wrote, read.reason.3, ran.wrote.2)
   told_well how.Short bytes done read ran out =
-      let begun = ends_begins (main_program []) (exchanges ran.entries) new.state ran.comes in
+      let begun = begins_ended (main_program []) (exchanges ran.entries) new.state ran.comes in
       let part = part_of new.uses ran.entries ran.bytes ran.all_main ran.led [] sink.took sink'.took sink'.whole begun (took_all sink.took sink'.took ran.bytes ran.wrote.0) (λ w. out) (λ w. ran.wrote.0) in
       let whole = whole_of new.uses ran.entries ran.bytes ran.all_main ran.led [] sink.took sink'.took new.state ran.comes out ran.wrote.0 in
       part_told source source' how.Short bytes sink.took sink'.took sink'.whole read (part, all_of sink.took sink'.took [] whole)

@@ -1,50 +1,25 @@
 -- How what calls made of programs is put together.
-use Rattle.std.proofs.Common.{◌≡◌, ℕ, ap, refl, subst, List, [], ◌∷◌, ◌++◌, Result, Ok, Err, append-nil, sym}
+use Rattle.std.proofs.Common.{◌≡◌, ℕ, refl, subst, List, [], ◌∷◌, ◌++◌, Result, Ok, Err, append-nil, sym}
 use Rattle.jdata.specs.declared.fault.Fault.{Fault}
-use Rattle.juses.specs.Program.{Program, Return, Ask, ◌>>=◌, Ends, Begins}
-use Rattle.juses.specs.OldestFirst.{AllOf, exchanges}
+use Rattle.juses.specs.Program.{Program, Return, Ask, ◌>>=◌, Ends}
+use Rattle.juses.specs.OldestFirst.{exchanges}
 use Rattle.juses.specs.declared.uses.Entry.{Entry}
 use Rattle.juses.specs.declared.uses.Halt.{Halt}
 use Rattle.juses.specs.declared.uses.Halt.TheVariants.{Wait, NoMemory, Closed}
 use Rattle.juses.specs.declared.uses.Reply.{Reply}
 use Rattle.juses.specs.declared.uses.Use.{Use}
 use Rattle.juses.specs.Entries.{entry}
+use Rattle.juses.proofs.Programs.{ends_bind, begins_on, begins_bind, both_of, exchanged}
 use Rattle.jeval.specs.declared.end.EvalEnd.{EvalEnd}
 use Rattle.jeval.specs.declared.end.EvalEnd.TheVariants as end
 use Rattle.jeval.specs.declared.state.State.{State}
 use Rattle.jeval.specs.Doing.{Does, gives, fails, answers, and_then}
 use Rattle.jeval.specs.Made.{Comes, Refused, Runs, Makes, Gives, Answers, settled}
 
-module _ {A B : Type 0} (f : A → Program Use Reply B) where
-  ends_bind : (p : Program Use Reply A) (es fs : List (Use × Reply)) (a : A) (b : B) → Ends p es a → Ends (f a) fs b → Ends (p >>= f) (es ++ fs) b
-  ends_bind (Return x) [] fs a b h k = subst (λ y. Ends (f y) fs b) h k
-  ends_bind (Return x) (e ∷ es) fs a b h k = absurd h
-  ends_bind (Ask q r) [] fs a b h k = absurd h
-  ends_bind (Ask q r) (e ∷ es) fs a b h k = (h.0, ends_bind (r e.1) es fs a b h.1 k)
-
-  ends_begins : (p : Program Use Reply A) (es fs : List (Use × Reply)) (a : A) → Ends p es a → Begins (f a) fs → Begins (p >>= f) (es ++ fs)
-  ends_begins (Return x) [] fs a h k = subst (λ y. Begins (f y) fs) h k
-  ends_begins (Return x) (e ∷ es) fs a h k = absurd h
-  ends_begins (Ask q r) [] fs a h k = absurd h
-  ends_begins (Ask q r) (e ∷ es) fs a h k = (h.0, ends_begins (r e.1) es fs a h.1 k)
-
-  begins_bind : (p : Program Use Reply A) (es : List (Use × Reply)) → Begins p es → Begins (p >>= f) es
-  begins_bind (Return x) [] h = tt
-  begins_bind (Return x) (e ∷ es) h = absurd h
-  begins_bind (Ask q r) [] h = tt
-  begins_bind (Ask q r) (e ∷ es) h = (h.0, begins_bind (r e.1) es h.1)
-
-  comes_bind : (p : Program Use Reply A) (es fs : List (Use × Reply)) (a : A) (r : Result B Halt) → Ends p es a → Comes (f a) fs r → Comes (p >>= f) (es ++ fs) r
-  comes_bind p es fs a (Ok b) h k = ends_bind p es fs a b h k
-  comes_bind p es fs a (Err halt) h k = ends_begins p es fs a h k
-
-both_of : (who : List ℕ) (es fs : List Entry) → AllOf who es → AllOf who fs → AllOf who (es ++ fs)
-both_of who [] fs h k = k
-both_of who (e ∷ es) fs h k = (h.0, both_of who es fs h.1 k)
-
-exchanged : (es fs : List Entry) → exchanges (es ++ fs) ≡ exchanges es ++ exchanges fs
-exchanged [] fs = refl
-exchanged (e ∷ es) fs = ap (λ l. (e.asked, e.reply) ∷ l) (exchanged es fs)
+comes_bind : {A B : Type 0} (f : A → Program Use Reply B) (p : Program Use Reply A) (es fs : List (Use × Reply)) (a : A) (r : Result B Halt)
+    → Ends p es a → Comes (f a) fs r → Comes (p >>= f) (es ++ fs) r
+comes_bind f p es fs a (Ok b) h k = ends_bind f p es fs a b h k
+comes_bind f p es fs a (Err halt) h k = begins_on f p es fs a h k
 
 module _ {S : Type 0} (leads : S → List Entry → List ℕ → S → Type 0) (refuses : S → Halt → Type 0) (stays : (s : S) → leads s [] [] s)
     (joins : (s t u : S) (es fs : List Entry) (bs cs : List ℕ) → leads s es bs t → leads t fs cs u → leads s (es ++ fs) (bs ++ cs) u) (who : List ℕ) where

@@ -1,11 +1,10 @@
 -- Programs that are run one after another.
-use Rattle.std.proofs.Common.{◌≡◌, ℕ, List, [], ◌∷◌, ◌++◌, Result, Ok, Err, refl, ap, subst}
+use Rattle.std.proofs.Common.{ℕ, List, [], ◌∷◌, ◌++◌, Result, Ok, Err, ap, subst}
 use Rattle.juses.specs.Program.{Program, Return, Ask, ◌>>=◌, Ends, Begins}
-use Rattle.juses.specs.OldestFirst.{AllOf, exchanges}
-use Rattle.juses.specs.declared.uses.Entry.{Entry}
 use Rattle.juses.specs.declared.uses.Halt.{Halt}
 use Rattle.juses.specs.declared.uses.Reply.{Reply}
 use Rattle.juses.specs.declared.uses.Use.{Use}
+use Rattle.juses.proofs.Traces.{begins_ended}
 use Rattle.jeval.specs.Made.{Comes}
 use Rattle.jeval.specs.Showing.{sentence}
 use Rattle.jeval.specs.declared.eval.Shown.{Shown}
@@ -31,12 +30,6 @@ module _ {A B C : Type 0} (f : A → B) where
   begins_after k (Return x) (e ∷ es) fs b h m = absurd h
   begins_after k (Ask q r) [] fs b h m = absurd h
   begins_after k (Ask q r) (e ∷ es) fs b h m = (h.0, begins_after k (r e.1) es fs b h.1 m)
-
-module _ {A B : Type 0} (f : A → Program Use Reply B) where
-  pub begins_bind : (p : Program Use Reply A) (es : List (Use × Reply)) → Begins p es → Begins (p >>= f) es
-  begins_bind p [] h = tt
-  begins_bind (Return x) (e ∷ es) h = absurd h
-  begins_bind (Ask q r) (e ∷ es) h = (h.0, begins_bind (r e.1) es h.1)
 
 -- a program that goes on otherwise once it has come so far
 begins_through : {A B C : Type 0} (f : A → Program Use Reply B) (g : A → Program Use Reply C) (p : Program Use Reply A) (es fs : List (Use × Reply)) (b : B) → Ends (p >>= f) es b
@@ -65,19 +58,6 @@ more_begin turns [] later s (e ∷ es) h = absurd h
 more_begin turns (line ∷ now) later s es h =
     begins_further (λ (r : Shown × State). script turns now r.1) (λ (r : Shown × State). script turns (now ++ later) r.1) (sentence turns line s) es (λ r ds k. more_begin turns now later r.1 ds k) h
 
-pub ends_begins : {A : Type 0} (p : Program Use Reply A) (es : List (Use × Reply)) (a : A) → Ends p es a → Begins p es
-ends_begins p [] a h = tt
-ends_begins (Return x) (e ∷ es) a h = absurd h
-ends_begins (Ask q r) (e ∷ es) a h = (h.0, ends_begins (r e.1) es a h.1)
-
 pub comes_begins : {A : Type 0} (p : Program Use Reply A) (es : List (Use × Reply)) (r : Result A Halt) → Comes p es r → Begins p es
-comes_begins p es (Ok a) h = ends_begins p es a h
+comes_begins p es (Ok a) h = begins_ended p es a h
 comes_begins p es (Err halt) h = h
-
-pub both_of : (who : List ℕ) (es fs : List Entry) → AllOf who es → AllOf who fs → AllOf who (es ++ fs)
-both_of who [] fs h k = k
-both_of who (e ∷ es) fs h k = (h.0, both_of who es fs h.1 k)
-
-pub exchanged : (es fs : List Entry) → exchanges (es ++ fs) ≡ exchanges es ++ exchanges fs
-exchanged [] fs = refl
-exchanged (e ∷ es) fs = ap (λ l. (e.asked, e.reply) ∷ l) (exchanged es fs)

@@ -11,13 +11,14 @@ use Rattle.juses.specs.declared.uses.Entry.{Entry}
 use Rattle.juses.specs.declared.uses.Halt.{Halt}
 use Rattle.juses.specs.declared.uses.Reply.{Reply}
 use Rattle.juses.specs.declared.uses.Use.{Use}
+use Rattle.juses.proofs.Programs.{begins_bind, both_of, exchanged}
 use Rattle.jsession.specs.Broke.{Answer, well, ill, Broke, Went}
 use Rattle.jsession.specs.Ran.{Paper, Ran, Wrote, ComesTo}
 use Rattle.jsession.specs.Script.{script}
 use Rattle.jsession.specs.declared.status.Status.{Status}
 use Rattle.jsession.specs.declared.status.Status.TheVariants as status
 use Rattle.jsession.proofs.Papers.{wrote_further, took_all, nothing_appended}
-use Rattle.jsession.proofs.Programs.{ends_map, ends_on, begins_after, begins_bind, comes_begins, script_begins, more_begin, both_of, exchanged}
+use Rattle.jsession.proofs.Programs.{ends_map, ends_on, begins_after, comes_begins, script_begins, more_begin}
 
 pub empty_of : (xs : List ℕ) → true ≡ (length xs == 0) → xs ≡ []
 empty_of [] h = refl

@@ -24,7 +24,7 @@ pub record Broke {S : Type 0} (leads : S → List Entry → List ℕ → S → T
   pub later : List (List ℕ)
   pub split : lines ≡ first ++ (now ++ later)
   pub one : length now ≤ 1
-  -- the uses, the state and the paper when the first had come to their end
+  -- the uses, the state and the sink when the first had come to their end
   pub mid : S
   pub between : State
   pub sheet : Paper
