@@ -27,7 +27,7 @@ use Rattle.juses.specs.declared.uses.Use.{Use}
 use Rattle.juses.proofs.Desks.{first_stands}
 use Rattle.juses.proofs.Programs.{both_of, exchanged}
 use Rattle.juses.proofs.Traces.{begins_ended}
-use Rattle.juses.proofs.Runs.{legal_onto, legal_run, faithful_run, faithful_history, complete_history, after_onto, printed_after, whole_run}
+use Rattle.juses.proofs.Runs.{a_run, once_run, one_thread, legal_onto, faithful_history, complete_history, after_onto, printed_after, whole_run}
 use Rattle.jconsole.specs.Session.{main_program, WroteRun, WrotePart, BrokeOff, WroteSome}
 
 took_more : (a b : Option (List ℕ)) (xs ys : List ℕ) → TookPart a b xs → TookPart a b (xs ++ ys)
@@ -79,13 +79,20 @@ module _ (d : Kept) (es : List Entry) (bytes : List ℕ) (main : AllOf [] es) (l
   pub is_wrote : (took took' : Option (List ℕ)) → d.waiting ≡ [] → Appends took took' bytes → Appends took took' (prints (history es))
   is_wrote took took' out wrote = let P : List ℕ → Type 0 = λ zs. Appends took took' zs in subst P (all_printed out) wrote
 
+  -- what was done so far was done at some time in the one-thread run
+  pub is_once : (items : List (List ℕ)) → Begins (main_program items) (exchanges es) → (run : List Entry) → OneThreadRun (main_program items) 0 run → Once (history es) run
+  is_once items begun run is =
+      once_run (main_program items) 0 run is (history es) (one_thread (main_program items) 0 (history es) is_legal (faithful_history (main_program items) es main begun))
+
   pub part_of : (items : List (List ℕ)) (took took' : Option (List ℕ)) (whole : Bool) → Begins (main_program items) (exchanges es) → TookPart took took' bytes
       → (whole ≡ true → d.waiting ≡ []) → (whole ≡ true → Appends took took' bytes) → WrotePart took took' whole items
   part_of items took took' whole begun took_part out all =
-      let P : List ℕ → Type 0 = λ zs. TookPart took took' zs in (
+      let P : List ℕ → Type 0 = λ zs. TookPart took took' zs in
+      let run = a_run (main_program items) 0 in (
+        run.0,
+        run.1,
         history es,
-        is_legal,
-        faithful_history (main_program items) es main begun,
+        is_once items begun run.0 run.1,
         subst P (sym split) (took_more took took' bytes d.waiting took_part),
         λ w. is_wrote took took' (out w) (all w),
       )
@@ -124,10 +131,11 @@ all_of took took' items (h, run, wrote) = record {
   one = omega arith;
   run = h;
   is_run = run;
+  further = h;
+  is_further = let P : List (List ℕ) → Type 0 = λ ls. OneThreadRun (main_program ls) 0 h in subst P (sym (append-nil items)) run;
   history = h;
-  legal = legal_run (main_program items) 0 h run.0;
-  faithful = rw (append-nil items) (faithful_run (main_program items) 0 h run.0);
   since = once_itself h;
+  until = once_itself h;
   late = [];
   printed = sym (append-nil (prints h));
   between = took';
@@ -166,6 +174,9 @@ module _ (new : Kept) (items : List (List ℕ)) (s' : State) (sink sink' : Paper
       split new (es ++ fs) (b.ran.bytes ++ b.broke.bytes) all_main led ∙ append_assoc b.ran.bytes b.broke.bytes new.waiting
       ∙ ap (λ zs. zs ++ late) (all_printed b.mid es b.ran.bytes b.ran.all_main b.ran.led mid_out)
 
+  abbrev both : (r : List Entry) × OneThreadRun (main_program (b.first ++ b.now)) 0 r
+  both = a_run (main_program (b.first ++ b.now)) 0
+
   broken : BrokeOff sink.took sink'.took items
   broken = record {
     first = b.first;
@@ -175,10 +186,11 @@ module _ (new : Kept) (items : List (List ℕ)) (s' : State) (sink sink' : Paper
     one = b.one;
     run = history es;
     is_run = is_run b.mid es b.ran.bytes b.ran.all_main b.ran.led b.first b.between b.ran.comes;
+    further = both.0;
+    is_further = both.1;
     history = history (es ++ fs);
-    legal = is_legal new (es ++ fs) (b.ran.bytes ++ b.broke.bytes) all_main led;
-    faithful = faithful_history (main_program (b.first ++ b.now)) (es ++ fs) all_main begun;
     since = once_before es fs;
+    until = is_once new (es ++ fs) (b.ran.bytes ++ b.broke.bytes) all_main led (b.first ++ b.now) begun both.0 both.1;
     late = late;
     printed = since_then;
     between = b.sheet.took;

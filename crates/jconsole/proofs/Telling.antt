@@ -16,11 +16,12 @@ use Rattle.jsession.specs.declared.status.Status.{Status}
 use Rattle.jsession.specs.declared.status.Status.TheVariants as status
 use Rattle.juses.proofs.Traces.{begins_ended}
 use Rattle.jsession.proofs.Papers.{took_all, nothing_appended}
+use Rattle.juses.specs.Histories.{OneThreadRun}
 use Rattle.juses.specs.Keeping.{first_kept}
 use Rattle.juses.specs.Leading.{Leads}
 use Rattle.juses.specs.OldestFirst.{exchanges}
 use Rattle.juses.specs.Standing.{Kept}
-use Rattle.juses.proofs.Runs.{whole_run}
+use Rattle.juses.proofs.Runs.{a_run, once_run, whole_run}
 use Rattle.juses.specs.declared.uses.Entry.{Entry}
 use Rattle.jconsole.specs.Session.{main_program, WroteRun, WroteSome, AreItems, IsFront, Told, GivesWhatIsLeft}
 use Rattle.jconsole.proofs.Solos.{part_of, whole_of, all_of, some_of}
@@ -29,9 +30,12 @@ use Rattle.jconsole.proofs.Solos.{part_of, whole_of, all_of, some_of}
 pub nothing_told : (source source' : Side) (sink : Paper) → Told source source' sink sink status.NoMemory
 nothing_told source source' sink = told source.left
   where
+    run : (r : List Entry) × OneThreadRun (main_program []) 0 r
+    run = a_run (main_program []) 0
+
     told : (left : Option (List ℕ)) → IfSome left (λ script. (items : List (List ℕ)) × AreItems script source'.left items × WroteSome sink.took sink.took sink.whole items)
     told None = tt
-    told (Some script) = ([], inr ([], refl, refl), (([], tt, tt, ([], refl, nothing_appended sink.took), λ whole. nothing_appended sink.took), all_of sink.took sink.took [] ([], whole_run (main_program []) 0 [] tt tt refl, nothing_appended sink.took)))
+    told (Some script) = ([], inr ([], refl, refl), ((run.0, run.1, [], once_run (main_program []) 0 run.0 run.1 [] tt, ([], refl, nothing_appended sink.took), λ whole. nothing_appended sink.took), all_of sink.took sink.took [] ([], whole_run (main_program []) 0 [] tt tt refl, nothing_appended sink.took)))
 
 pub gives_nothing : (source : Side) → GivesWhatIsLeft source source
 gives_nothing source = given source.left

@@ -11,7 +11,7 @@ use Rattle.jsession.specs.Reads.{Side, ReadPastLimit}
 use Rattle.jsession.specs.Script.{script_of}
 use Rattle.jsession.specs.declared.status.Status.{Status}
 use Rattle.jsession.specs.declared.status.Status.TheVariants as status
-use Rattle.juses.specs.Histories.{Legal, Faithful, Once, OneThreadRun, prints}
+use Rattle.juses.specs.Histories.{Once, OneThreadRun, prints}
 use Rattle.juses.specs.Program.{Program}
 use Rattle.juses.specs.declared.uses.Entry.{Entry}
 use Rattle.juses.specs.declared.uses.Reply.{Reply}
@@ -25,14 +25,15 @@ main_program items = script_of 10000000 items
 abbrev pub WroteRun : (took took' : Option (List ℕ)) → List (List ℕ) → Type 0
 WroteRun took took' items = (h : List Entry) × OneThreadRun (main_program items) 0 h × Appends took took' (prints h)
 
--- the sink took a beginning of the prints of a history that the sentences and the desk make so far, and all of them
--- where it says that each write was answered All
+-- the sink took a beginning of what the one-thread run had printed at some time, and all of that where the sink says that
+-- each write was answered All
 abbrev pub WrotePart : (took took' : Option (List ℕ)) → Bool → List (List ℕ) → Type 0
 WrotePart took took' whole items =
-    (h : List Entry) × Legal 0 h × Faithful (main_program items) h × TookPart took took' (prints h) × (whole ≡ true → Appends took took' (prints h))
+    (run : List Entry) × OneThreadRun (main_program items) 0 run × (h : List Entry) × Once h run
+    × TookPart took took' (prints h) × (whole ≡ true → Appends took took' (prints h))
 
 -- where the session broke off: the prints of the one-thread run of the first sentences were written, and a beginning of
--- what the history has printed since, which is that of these sentences and of the one in progress, if there was one
+-- what was printed since, in the run of these sentences and of the one in progress, if there was one
 pub record BrokeOff (took took' : Option (List ℕ)) (items : List (List ℕ)) : Type 0 where
   pub first : List (List ℕ)
   pub now : List (List ℕ)
@@ -41,10 +42,13 @@ pub record BrokeOff (took took' : Option (List ℕ)) (items : List (List ℕ)) :
   pub one : length now ≤ 1
   pub run : List Entry
   pub is_run : OneThreadRun (main_program first) 0 run
+  pub further : List Entry
+  pub is_further : OneThreadRun (main_program (first ++ now)) 0 further
+  -- the history when it broke off
   pub history : List Entry
-  pub legal : Legal 0 history
-  pub faithful : Faithful (main_program (first ++ now)) history
   pub since : Once run history
+  pub until : Once history further
+  -- what was printed since the first sentences, and what the sink took of all
   pub late : List ℕ
   pub printed : prints history ≡ prints run ++ late
   pub between : Option (List ℕ)

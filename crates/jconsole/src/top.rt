@@ -37,7 +37,7 @@ pub fn run_solo<S: Source, K: Sink>(
     ensures long { result.status ≡ status.TooLong → IfSome (S.left script.old) (λ bytes. (front : List ℕ) × (last : ℕ) × (length front ≡ 16777216) ×
         IsFront bytes (S.left script.new) (front ++ last ∷ []) × WroteRun (K.took out.old) (K.took out.new) (sentences (ended front))) }
 
-    // A failed write, or want of memory, leaves a beginning of the prints of a history of the items: all that the
+    // A failed write, or want of memory, leaves a beginning of what the one-thread run of the items prints: all that the
     // sentences before printed, and of the sentence in progress perhaps a part; all where each write was answered All.
     ensures write_fault { result.status ≡ status.WriteFault → IfSome (S.left script.old) (λ bytes. (items : List (List ℕ)) ×
         AreItems bytes (S.left script.new) items × WroteSome (K.took out.old) (K.took out.new) (K.whole out.new) items) }

@@ -2,13 +2,15 @@
 use Rattle.std.proofs.Common.{◌≡◌, refl, sym, ap, subst, ◌∙◌, ◌⊎◌, inl, inr, ℕ, List, [], ◌∷◌, ◌++◌, if◌then◌else◌, Option, Some, None, append_assoc, append-nil}
 use Rattle.juses.specs.Program.{Program, Return, Ask, next, Begins, Ends}
 use Rattle.juses.specs.Keys.{same}
-use Rattle.juses.specs.Desk.{State, reply, bytes_of}
+use Rattle.juses.specs.Desk.{State, first, reply, moved, bytes_of}
+use Rattle.juses.specs.Entries.{entry}
 use Rattle.juses.specs.Histories.{Once, after, Fits, Legal, own, replies, prints, Asks, Faithful, Complete, OneThread, OneThreadRun}
 use Rattle.juses.specs.OldestFirst.{taken, RepliedOn, AllOf, exchanges, written, onto, history}
 use Rattle.juses.specs.declared.uses.Entry.{Entry}
 use Rattle.juses.specs.declared.uses.Use.{Use}
 use Rattle.juses.specs.declared.uses.Use.TheVariants.{Read, Write, Print}
 use Rattle.juses.specs.declared.uses.Reply.{Reply}
+use Rattle.juses.proofs.Traces.{begins_ended}
 
 -- ---- in order, put on a history
 
@@ -54,6 +56,12 @@ newer p (x ∷ h) (inr s) = by (newer p h s)
     by : (p ≡ h) ⊎ ((f : Entry) × Once (f ∷ p) h) → (p ≡ (x ∷ h)) ⊎ ((f : Entry) × Once (f ∷ p) (x ∷ h))
     by (inl e) = inr (x, inl (ap (λ l. x ∷ l) e))
     by (inr t) = inr (t.0, inr t.1)
+
+-- each use has a reply
+has_reply : (s : State) (u : Use) → (r : Reply) × (reply s [] 0 u ≡ Some r)
+has_reply s (Read from name) = (_, refl)
+has_reply s (Write place name value) = (_, refl)
+has_reply s (Print bytes) = (_, refl)
 
 module _ {A : Type 0} (script : Program Use Reply A) where
   -- the program is what is left of the script after the history
@@ -132,12 +140,6 @@ module _ {A : Type 0} (script : Program Use Reply A) where
     pub whole_run : (h : List Entry) → Legal workers h → Faithful script h → Complete script h → OneThreadRun script workers h
     whole_run h l f c = (one_thread h l f, λ e o. let asked = asks_next h e.asked o.3 in cc)
 
-    -- each use has a reply
-    has_reply : (s : State) (u : Use) → (r : Reply) × (reply s [] 0 u ≡ Some r)
-    has_reply s (Read from name) = (_, refl)
-    has_reply s (Write place name value) = (_, refl)
-    has_reply s (Print bytes) = (_, refl)
-
     pub complete_run : (h : List Entry) → OneThreadRun script workers h → Complete script h
     complete_run h o = by (next script (replies (own [] h))) refl
       where
@@ -166,6 +168,22 @@ module _ {A : Type 0} (script : Program Use Reply A) where
   faithful_once p [] e f = subst (Faithful script) (sym e) tt
   faithful_once p (x ∷ h) (inl e) f = subst (Faithful script) (sym e) f
   faithful_once p (x ∷ h) (inr s) f = faithful_once p h s f.0
+
+-- what a program and the desk do from a state on
+done_from : {A : Type 0} (p : Program Use Reply A) (s : State) → (es : List Entry) × (a : A) × Ends p (exchanges es) a × RepliedOn 0 s es × AllOf [] es
+done_from (Return a) s = ([], a, refl, tt, tt)
+done_from (Ask q k) s =
+    let r = has_reply s q in
+    let rest = done_from (k r.0) (moved s [] 0 q r.0) in
+    (entry [] 0 q r.0 ∷ rest.0, rest.1, (refl, rest.2), (refl, r.1, rest.3), (refl, rest.4))
+
+-- so there is a one-thread run
+pub a_run : {A : Type 0} (script : Program Use Reply A) (workers : ℕ) → (r : List Entry) × OneThreadRun script workers r
+a_run script workers =
+    let d = done_from script (first workers) in (
+      history d.0,
+      whole_run script workers (history d.0) (legal_onto workers d.0 [] tt d.3 d.4) (faithful_history script d.0 d.4 (begins_ended script (exchanges d.0) d.1 d.2)) (complete_history script d.0 d.1 d.4 d.2),
+    )
 
 pub legal_once : (workers : ℕ) (p h : List Entry) → Once p h → Legal workers h → Legal workers p
 legal_once workers p [] e l = subst (Legal workers) (sym e) tt

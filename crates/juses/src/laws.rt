@@ -44,8 +44,9 @@ pub fn history_law<A>()
 {}
 
 /// A legal, faithful and complete history of a script with one activity is the one-thread run. There
-/// is one such run, and what was done on the way to it was done at some time in it.
+/// is exactly one such run, and what was done on the way to it was done at some time in it.
 pub fn one_thread_law<A>()
+    ensures there { (script : Program Use Reply A) (workers : ℕ) → (r : List Entry) × OneThreadRun script workers r }
     ensures run { (script : Program Use Reply A) (workers : ℕ) (h : List Entry) → Legal workers h → Faithful script h → Complete script h → OneThreadRun script workers h }
     ensures one { (script : Program Use Reply A) (workers : ℕ) (r h : List Entry) → OneThreadRun script workers r → OneThreadRun script workers h → h ≡ r }
     ensures part { (script : Program Use Reply A) (workers : ℕ) (r h : List Entry) → OneThreadRun script workers r → Legal workers h → Faithful script h → Once h r }

@@ -1,5 +1,8 @@
-use Rattle.juses.proofs.Runs.{whole_run, one_run, once_run, one_thread, legal_run, faithful_run, complete_run}
+use Rattle.juses.proofs.Runs.{a_run, whole_run, one_run, once_run, one_thread, legal_run, faithful_run, complete_run}
 use Rattle.juses.proofs.laws.one_thread_law.Goals as goal
+
+pub returns-clause-there : goal.returns-clause-there
+returns-clause-there g c = a_run
 
 pub returns-clause-run : goal.returns-clause-run
 returns-clause-run g c = whole_run
