@@ -1,3 +1,4 @@
+pub mod Answers
 pub mod Falls
 pub mod Faults
 pub mod Limits

@@ -1,6 +1,8 @@
 -- When a shape and atoms are an array, and what is wrong with them where they aren't.
 use Rattle.std.specs.Prelude.{◌≡◌, ◌≤◌, ◌==◌, ◌&&◌, nat_le, Bool, if◌then◌else◌, Result, Ok, Err, length}
 use Rattle.jdata.specs.Noun.{shape, atoms, level, product, extent}
+use Rattle.jdata.specs.declared.fault.Fault.{Fault}
+use Rattle.jdata.specs.declared.fault.Fault.TheVariants as fault
 use Rattle.jdata.specs.declared.noun.Noun.{Noun}
 use Rattle.jdata.specs.declared.tree.BadTree.{BadTree}
 use Rattle.jdata.specs.declared.tree.BadTree.TheVariants as bad
@@ -14,6 +16,10 @@ checked v =
     if is_within v
     then (if length (atoms v) == product (shape v) then Ok v else Err (bad.Length (product (shape v)) (length (atoms v))))
     else Err bad.Limit
+
+-- the same with a fault of the language, of a noun that has as many atoms as its shape wants
+abbrev pub limited : Noun → Result Noun Fault
+limited v = if is_within v then Ok v else Err fault.Limit
 
 -- what is true of every array
 pub record IsArray (v : Noun) : Type 0 where

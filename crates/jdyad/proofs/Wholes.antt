@@ -25,7 +25,7 @@ use Rattle.jdata.specs.declared.tree.Leaves.{Leaves}
 use Rattle.jdata.specs.declared.noun.Atom.{Atom}
 use Rattle.jdata.specs.declared.noun.Atom.TheVariants as atom
 use Rattle.jdata.specs.declared.primitive.Primitive.{Primitive}
-use Rattle.jarray.specs.Answers.{Answers}
+use Rattle.jdata.specs.Answers.{Answers}
 use Rattle.jarray.specs.Matches.{kinds_match}
 use Rattle.jdyad.specs.Agreement.{is_prefix, longer, repeated}
 use Rattle.jdyad.specs.Atoms.{is_comparison, by_place}

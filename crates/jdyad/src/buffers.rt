@@ -4,7 +4,7 @@ ghost use Rattle.std.specs.Prelude.{◌≡◌, ◌*◌, ◌<◌, true, length, m
 ghost use Rattle.jdata.specs.Trees.{atoms_of};
 ghost use Rattle.jdata.specs.declared.noun.Atom.TheVariants as atom;
 ghost use Rattle.jscalar.specs.Dyads.{is_scalar_dyad};
-ghost use Rattle.jarray.specs.Answers.{Answers};
+ghost use Rattle.jdata.specs.Answers.{Answers};
 ghost use Rattle.jarray.specs.Arrays.{atoms_seen};
 ghost use Rattle.jdyad.specs.Atoms.{is_comparison, by_place};
 ghost use Rattle.jdyad.specs.Dyads.{spread};

@@ -7,7 +7,7 @@ ghost use Rattle.jdata.specs.Trees.{kind_of, atoms_of};
 ghost use Rattle.jdata.specs.declared.noun.Kind.TheVariants as sort;
 ghost use Rattle.jdata.specs.declared.fault.Trouble.TheVariants as trouble;
 ghost use Rattle.jscalar.specs.Dyads.{is_scalar_dyad};
-ghost use Rattle.jarray.specs.Answers.{Answers};
+ghost use Rattle.jdata.specs.Answers.{Answers};
 ghost use Rattle.jarray.specs.Arrays.{kind_seen, atoms_seen};
 ghost use Rattle.jdyad.specs.Agreement as agreement;
 ghost use Rattle.jdyad.specs.Atoms as atoms;

@@ -21,16 +21,16 @@ abbrev pub most_levels : ℕ
 most_levels = 200
 
 -- the verb that a name has as its value
-abbrev pub verb_in : Reply → Result Term Fault
-verb_in (Named (term.Noun v)) = Err Domain
-verb_in (Named (term.Verb verb)) = Ok (term.Verb verb)
-verb_in (Named (term.Name name)) = Ok (term.Name name)
-verb_in Nothing = Err Value
-verb_in Done = Err Value
+abbrev pub verb_replied : Reply → Result Term Fault
+verb_replied (Named (term.Noun v)) = Err Domain
+verb_replied (Named (term.Verb verb)) = Ok (term.Verb verb)
+verb_replied (Named (term.Name name)) = Ok (term.Name name)
+verb_replied Nothing = Err Value
+verb_replied Done = Err Value
 
 -- the verb that a name has as its value when it is run
 abbrev pub sought : List ℕ → State → Does Term
-sought name s = Ask (Read base_locale name) (λ reply. answers (verb_in reply) s)
+sought name s = Ask (Read base_locale name) (λ reply. answers (verb_replied reply) s)
 
 -- the verb that a reference stands for; a name in a locale isn't built
 abbrev pub sought_in : Option (List ℕ) → List ℕ → State → Does Term

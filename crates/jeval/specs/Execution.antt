@@ -52,11 +52,11 @@ abbrev pub Ending : Type 0
 Ending = List Part × Bool
 
 -- what happens where no word is read: a row acts, or the sentence ends
-abbrev pub halts_at : Act → Ending → State → (ℕ → Does Ending) → Does Ending
-halts_at (act.Row row) ending s acts = acts row
-halts_at act.Done ending s acts = gives ending s
-halts_at act.Syntax ending s acts = fails Syntax s
-halts_at act.Shift ending s acts = fails Syntax s
+abbrev pub acts_or_ends : Act → Ending → State → (ℕ → Does Ending) → Does Ending
+acts_or_ends (act.Row row) ending s acts = acts row
+acts_or_ends act.Done ending s acts = gives ending s
+acts_or_ends act.Syntax ending s acts = fails Syntax s
+acts_or_ends act.Shift ending s acts = fails Syntax s
 
 abbrev pub if_shift : Act → Does Ending → Does Ending → Does Ending
 if_shift act.Shift reads other = reads
@@ -70,11 +70,11 @@ Acts = ℕ → List Queued → List Part → State → Does Ending
 
 -- reads words until something else than reading happens
 abbrev pub read_on : Acts → List Queued → List Part → Bool → State → Does Ending
-read_on acts [] parts assigned s = halts_at (act_of parts 0) (parts, assigned) s (λ row. acts row [] parts s)
+read_on acts [] parts assigned s = acts_or_ends (act_of parts 0) (parts, assigned) s (λ row. acts row [] parts s)
 read_on acts (next ∷ queue) parts assigned s =
     if_shift (act_of parts (suc (length queue)))
     (moved_in next parts s >>= and_then (λ more t. read_on acts queue more assigned t))
-    (halts_at (act_of parts (suc (length queue))) (parts, assigned) s (λ row. acts row (next ∷ queue) parts s))
+    (acts_or_ends (act_of parts (suc (length queue))) (parts, assigned) s (λ row. acts row (next ∷ queue) parts s))
 
 abbrev pub is_assignment : ℕ → Bool
 is_assignment row = row == 7

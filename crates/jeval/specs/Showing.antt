@@ -73,6 +73,7 @@ abbrev pub run_queue : Option (List Queued) → State → Does (Option (List ℕ
 run_queue None s = fails fault.Nonce s
 run_queue (Some queue) s = execute s.left queue [] false s >>= and_then (λ ending t. answers (shown ending) t)
 
+-- the fault of a line that can't be cut. `words_of` never wants memory, so the last case doesn't come
 abbrev pub fault_of : WordFault → Fault
 fault_of (cut.OpenQuote at) = fault.OpenQuote
 fault_of (cut.Spelling at) = fault.Spelling

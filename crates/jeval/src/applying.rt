@@ -78,8 +78,8 @@ pub(crate) fn read<U: Uses>(uses: &mut U, by: &Activity, name: Name) -> Result<R
 }
 
 // The verb that a name has as its value.
-fn verb_in(reply: Reply) -> Result<Term, Fault>
-    ensures { result ≡ applying.verb_in reply }
+fn verb_replied(reply: Reply) -> Result<Term, Fault>
+    ensures { result ≡ applying.verb_replied reply }
 {
     match reply {
         Reply::Named(Term::Noun(_)) => Err(Fault::Domain),
@@ -94,7 +94,7 @@ fn sought<U: Uses>(uses: &mut U, by: &Activity, name: Name) -> Result<Term, Eval
     ensures { (s : State) → Makes U.leads U.refuses by.now.who uses.old uses.new (applying.sought name s) result s }
 {
     match read(uses, by, name) {
-        Ok(reply) => match verb_in(reply) {
+        Ok(reply) => match verb_replied(reply) {
             Ok(verb) => Ok(verb),
             Err(fault) => Err(EvalEnd::Fault(fault)),
         },

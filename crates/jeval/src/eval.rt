@@ -24,7 +24,7 @@ use std::alloc::Global;
 use std::marker::Model;
 
 /// How many bytes a line may have.
-const LINE_LIMIT: usize = 65_536;
+pub const LINE_LIMIT: usize = 65_536;
 
 /// What became of a sentence.
 #[derive(Clone, Copy, Debug, PartialEq, Eq)]

@@ -17,7 +17,7 @@ mod valence;
 mod verbs;
 
 pub use end::EvalEnd;
-pub use eval::{Eval, Shown};
+pub use eval::{Eval, LINE_LIMIT, Shown};
 pub use part::Part;
 pub use state::State;
 pub use step::Act;

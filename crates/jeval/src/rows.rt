@@ -18,8 +18,8 @@ use jdata::{Fault, Kind, Name, NoMemory};
 use jterm::Term;
 use juses::{Halt, Use, Uses};
 
-// What a row that acts needs besides its parts.
-type Parts = Stack<Part>;
+/// The parts that were read, the one that was read last in front.
+pub(crate) type Parts = Stack<Part>;
 
 const SYNTAX: EvalEnd = EvalEnd::Fault(Fault::Syntax);
 
@@ -38,7 +38,8 @@ fn first_three(mut parts: Parts) -> Option<(Part, Part, Part, Parts)>
     Some((a, b, c, parts))
 }
 
-fn push(mut parts: Parts, part: Part) -> Result<Parts, EvalEnd>
+/// Puts a part in front of the others.
+pub(crate) fn push(mut parts: Parts, part: Part) -> Result<Parts, EvalEnd>
     ensures { Gives (part ∷ parts) result }
 {
     match parts.push(part) {

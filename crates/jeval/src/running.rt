@@ -8,7 +8,7 @@ use crate::applying::{Activity, NO_MEMORY, read};
 use crate::end::EvalEnd;
 use crate::part::{Class, Part};
 use crate::queue::Queued;
-use crate::rows::act;
+use crate::rows::{Parts, act, push};
 use crate::stack::Stack;
 use crate::state::State;
 use crate::step::{Act, is, step};
@@ -16,8 +16,6 @@ use jarray::Array;
 use jdata::{Fault, Name, NoMemory};
 use jterm::{Locative, Term, copy_name};
 use juses::{Reply, Uses};
-
-type Parts = Stack<Part>;
 
 fn reference(name: Name, found: bool) -> Part
     ensures { result ≡ execution.reference_part name found }
@@ -37,15 +35,6 @@ fn value_of(name: Name, reply: Reply) -> Part
         Reply::Named(_) => reference(name, true),
         Reply::Nothing => reference(name, false),
         Reply::Done => reference(name, false),
-    }
-}
-
-fn push(mut parts: Parts, part: Part) -> Result<Parts, EvalEnd>
-    ensures { Gives (part ∷ parts) result }
-{
-    match parts.push(part) {
-        Ok(()) => Ok(parts),
-        Err(NoMemory) => Err(NO_MEMORY),
     }
 }
 

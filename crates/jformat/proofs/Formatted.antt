@@ -10,7 +10,8 @@ use Rattle.jdata.specs.declared.tree.Leaves.{Leaves}
 use Rattle.jdata.specs.declared.tree.Leaves.TheVariants as leaf
 use Rattle.jnumber.specs.Spelling.{written}
 use Rattle.jformat.specs.Rows.{row_axes, last_axis, integer_row, spelling_of}
-use Rattle.jformat.specs.Format.{row_width, integer_text, limited, format_by, format_of}
+use Rattle.jdata.specs.Limits.{limited}
+use Rattle.jformat.specs.Format.{row_width, integer_text, format_by, format_of}
 use Rattle.jformat.proofs.LaidOut.{IsLaidOut, rows_are_all, widths_of}
 use Rattle.jformat.proofs.Sizes.{row_width_is}
 use Rattle.jformat.proofs.Texts.{AreLeaves, spellings_of_ints}

@@ -13,8 +13,9 @@ use Rattle.jdata.specs.declared.tree.BadTree.TheVariants as bad
 use Rattle.jdata.specs.declared.fault.Trouble.{Trouble}
 use Rattle.jdata.specs.declared.fault.Trouble.TheVariants as trouble
 use Rattle.jshape.specs.Shapes.{IsShape}
-use Rattle.jformat.specs.Answers.{IsAnswer, IsLimitWhere}
-use Rattle.jformat.specs.Format.{limited}
+use Rattle.jdata.specs.Answers.{Answers}
+use Rattle.jformat.specs.Troubles.{IsLimitWhere}
+use Rattle.jdata.specs.Limits.{limited}
 
 tested : (rank extents levels : ℕ) → (nat_le rank 63 && (nat_le extents 134217728 && nat_le levels 64)) ≡ true → (rank ≤ 63) × (extents ≤ 134217728)
 tested rank extents levels h = grind (arith, nat_tests)
@@ -49,6 +50,6 @@ pub checked_err : (v : Noun) (e : BadTree) → length (atoms v) ≡ product (sha
 checked_err v e l h = refused_by v (is_within v) (length (atoms v) == product (shape v)) e (eq-eqb (length (atoms v)) (product (shape v)) l) h
 
 -- a trouble that comes as the limit where the axes are no shape is the definition's
-pub refused : (v : Noun) (axes : List ℕ) (why : Trouble) → axes ≡ shape v → IsLimitWhere why (¬ IsShape axes) → IsAnswer (limited v) (Err why)
+pub refused : (v : Noun) (axes : List ℕ) (why : Trouble) → axes ≡ shape v → IsLimitWhere why (¬ IsShape axes) → Answers (limited v) (Err why)
 refused v axes (trouble.Fault f) e h = beyond v (λ s. h.1 (subst IsShape (sym e) s)) ∙ ap (λ x. Err x) (sym h.0)
 refused v axes trouble.NoMemory e h = tt

@@ -2,7 +2,7 @@
 use Rattle.std.specs.Prelude.{ℕ, ◌+◌, ◌-◌, ◌==◌, if◌then◌else◌, Result, Ok, Err, List, [], ◌∷◌, ◌++◌, map, sum_by}
 use Rattle.std.specs.List.{range_with_len, flat_map}
 use Rattle.jdata.specs.Noun.{noun, shape, kind, atoms, product}
-use Rattle.jdata.specs.Limits.{is_within}
+use Rattle.jdata.specs.Limits.{limited}
 use Rattle.jdata.specs.declared.noun.Noun.{Noun}
 use Rattle.jdata.specs.declared.noun.Kind.{Kind}
 use Rattle.jdata.specs.declared.noun.Kind.TheVariants as sort
@@ -22,10 +22,6 @@ integer_text axes texts =
     let rows = product (row_axes axes) in
     let columns = last_axis axes in
     noun (row_axes axes ++ row_width texts rows columns ∷ []) sort.Char (map atom.Char (flat_map (integer_row texts rows columns) (range_with_len 0 rows)))
-
--- an array within the limits, else the fault
-abbrev pub limited : Noun → Result Noun Fault
-limited v = if is_within v then Ok v else Err fault.Limit
 
 -- characters are as they are. Boxes have no text as long as their display isn't built
 abbrev pub format_by : Kind → Noun → Result Noun Fault

@@ -1,4 +1,4 @@
-pub mod Answers
+pub mod Troubles
 pub mod Pieces
 pub mod Rows
 pub mod Format

@@ -7,8 +7,10 @@ ghost use Rattle.jdata.specs.declared.noun.Kind.TheVariants as sort;
 ghost use Rattle.jnumber.specs.Spelling.{written};
 ghost use Rattle.jshape.specs.Shapes.{IsShape};
 ghost use Rattle.jformat.specs.Rows.{integer_row, width_of};
-ghost use Rattle.jformat.specs.Format.{format_of, limited, integer_text};
-ghost use Rattle.jformat.specs.Answers.{IsAnswer, IsLimitWhere};
+ghost use Rattle.jdata.specs.Answers.{Answers};
+ghost use Rattle.jdata.specs.Limits.{limited};
+ghost use Rattle.jformat.specs.Format.{format_of, integer_text};
+ghost use Rattle.jformat.specs.Troubles.{IsLimitWhere};
 
 use crate::axes::{atoms_of_row, last_axis, row_shape};
 use crate::widths::{column_widths, row_width};
@@ -21,7 +23,7 @@ use std::alloc::Global;
 /// Limit: the result would be beyond the limits of an array.
 pub fn format(alloc: Global, value: &Tree) -> Result<Tree, Trouble>
     requires { kind value.now ≢ sort.Boxed }
-    ensures { IsAnswer (format_of value.now) result }
+    ensures { Answers (format_of value.now) result }
 {
     match value.items() {
         Leaves::Int(numbers) => format_integers(alloc, value.shape(), numbers.items()),
@@ -36,7 +38,7 @@ pub fn format(alloc: Global, value: &Tree) -> Result<Tree, Trouble>
 fn format_integers(alloc: Global, axes: &[u64], numbers: &[i64]) -> Result<Tree, Trouble>
     requires shape { IsShape axes.now }
     requires whole { length numbers.now ≡ product axes.now }
-    ensures { IsAnswer (limited (integer_text axes.now (map written numbers.now))) result }
+    ensures { Answers (limited (integer_text axes.now (map written numbers.now))) result }
 {
     let row_shape = row_shape(alloc, axes)?;
     let rows = row_shape.product() as usize;

@@ -14,7 +14,8 @@ use Rattle.jdata.specs.declared.noun.Kind.TheVariants as sort
 use Rattle.jdata.specs.declared.noun.Atom.{Atom}
 use Rattle.jdata.specs.declared.fault.Fault.TheVariants as fault
 use Rattle.jshape.proofs.Extents.{parts_are_within}
-use Rattle.jframe.specs.Assembly.{raised, greatest_rank, greatest_on, common_shape, has_atoms, same_kind, common_kind, kinds_agree, atom_of_result, whole_atom, no_result, whole, limited, assembled, AreResults}
+use Rattle.jdata.specs.Limits.{limited}
+use Rattle.jframe.specs.Assembly.{raised, greatest_rank, greatest_on, common_shape, has_atoms, same_kind, common_kind, kinds_agree, atom_of_result, whole_atom, no_result, whole, assembled, AreResults}
 use Rattle.jframe.specs.Cells.{fill_of}
 use Rattle.jframe.specs.Indexes.{index_at, at_or}
 use Rattle.jframe.specs.Padding.{FitsIn, Joins, joined, spread}

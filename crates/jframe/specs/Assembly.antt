@@ -1,9 +1,9 @@
 -- Assembly of results into one array (J Dictionary, "Verbs"; NuVoc, "Framing Fill"): results of lower rank get leading
 -- axes of 1, and shorter axes are filled.
-use Rattle.std.specs.Prelude.{◌≡◌, ℕ, ◌-◌, ◌/◌, ◌%◌, max, nat_lt, Bool, true, false, if◌then◌else◌, List, [], ◌∷◌, ◌++◌, length, map, replicate, get_or, Result, Ok, Err}
+use Rattle.std.specs.Prelude.{◌≡◌, ℕ, ◌-◌, ◌/◌, ◌%◌, max, nat_lt, Bool, true, false, if◌then◌else◌, List, [], ◌∷◌, ◌++◌, length, map, replicate, get_or, Result, Err}
 use Rattle.std.specs.List.{range_with_len, filter, list_all}
 use Rattle.jdata.specs.Noun.{shape, kind, atoms, noun, product, greatest}
-use Rattle.jdata.specs.Limits.{is_within}
+use Rattle.jdata.specs.Limits.{limited}
 use Rattle.jdata.specs.declared.noun.Noun.{Noun}
 use Rattle.jdata.specs.declared.noun.Kind.{Kind}
 use Rattle.jdata.specs.declared.noun.Kind.TheVariants as sort
@@ -67,9 +67,6 @@ abbrev pub whole : List ℕ → List Noun → Noun
 whole frame vs =
     let axes = frame ++ common_shape vs in
     noun axes (common_kind vs) (map (whole_atom vs) (range_with_len 0 (product axes)))
-
-abbrev pub limited : Noun → Result Noun Fault
-limited v = if is_within v then Ok v else Err fault.Limit
 
 -- the results in one array, or why they are none: their kinds differ, or it is beyond the limits of an array
 unfoldable pub assembled : List ℕ → List Noun → Result Noun Fault

@@ -1,5 +1,5 @@
 pub mod Cells
 pub mod Indexes
 pub mod Assembly
-pub mod Answers
+pub mod Measure
 pub mod Padding

@@ -4,7 +4,9 @@ ghost use Rattle.std.specs.Prelude.{◌≡◌, ◌≤◌, ◌++◌, ◌*◌, ◌
 ghost use Rattle.std.specs.List.{range_with_len};
 ghost use Rattle.jdata.specs.Noun.{product, extent};
 ghost use Rattle.jdata.specs.Trees.{noun_of, kind_of, atoms_of};
-ghost use Rattle.jframe.specs.Answers.{IsAnswer, IsMeasure};
+ghost use Rattle.jdata.specs.Answers.{Answers};
+ghost use Rattle.jdata.specs.Limits.{limited as in_limits};
+ghost use Rattle.jframe.specs.Measure.{IsMeasure};
 ghost use Rattle.jframe.specs.Assembly.{assembled, AreResults};
 ghost use Rattle.jframe.specs.Assembly as whole;
 
@@ -22,7 +24,7 @@ use std::alloc::Global;
 /// then Limit.
 pub fn assemble(alloc: Global, frame: &Shape, results: Vec<Tree>) -> Result<Tree, Trouble>
     requires { AreResults frame.now results.items }
-    ensures { IsAnswer (assembled frame.now results.items) result }
+    ensures { Answers (assembled frame.now results.items) result }
 {
     match common_kind(results.as_slice()) {
         Some(kind) => put_together(alloc, frame, kind, results),
@@ -39,7 +41,7 @@ fn put_together(
     requires count { AreResults frame.now results.items }
     requires kind { kind ≡ whole.common_kind results.items }
     requires agree { whole.kinds_agree results.items ≡ true }
-    ensures { IsAnswer (whole.limited (whole.whole frame.now results.items)) result }
+    ensures { Answers (in_limits (whole.whole frame.now results.items)) result }
 {
     let common = match common_axes(alloc, results.as_slice()) {
         Ok(common) => common,
@@ -106,7 +108,7 @@ fn atoms_of_all(
 /// The array of these atoms; its only fault is Limit.
 fn limited(axes: Vec<u64>, atoms: Leaves) -> Result<Tree, Trouble>
     requires { length (atoms_of atoms) ≡ product axes.items }
-    ensures { IsAnswer (whole.limited (noun_of axes.items atoms)) result }
+    ensures { Answers (in_limits (noun_of axes.items atoms)) result }
 {
     match Tree::new(axes, atoms) {
         Ok(array) => Ok(array),

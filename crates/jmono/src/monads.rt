@@ -7,7 +7,7 @@ ghost use Rattle.jdata.specs.declared.fault.Trouble.TheVariants as trouble;
 ghost use Rattle.jdata.specs.declared.noun.Kind.TheVariants as sort;
 ghost use Rattle.jdata.specs.declared.noun.Atom.TheVariants as atom;
 ghost use Rattle.jscalar.specs.Monads.{is_scalar_monad, one_of};
-ghost use Rattle.jarray.specs.Answers.{Answers};
+ghost use Rattle.jdata.specs.Answers.{Answers};
 ghost use Rattle.jmono.specs.Monads.{scalar_monad};
 ghost use Rattle.jarray.specs.Numbers.{integers, all_or_first};
 

@@ -4,10 +4,8 @@ ghost use Rattle.std.specs.List.{list_all};
 ghost use Rattle.jwords.specs.Alphabet as alphabet;
 ghost use Rattle.jsession.specs.Items as items;
 
+use jeval::LINE_LIMIT;
 use jwords::is_blank;
-
-/// How many bytes a line may have.
-const LINE_LIMIT: usize = 65_536;
 
 fn is_blank_line(line: &[u8]) -> bool
     ensures { result ≡ list_all alphabet.is_blank line.now }

@@ -1,5 +1,5 @@
 use Rattle.std.proofs.Common.{Ok, ap, sym, subst, ◌∙◌}
-use Rattle.jformat.specs.Answers.{IsAnswer}
+use Rattle.jdata.specs.Answers.{Answers}
 use Rattle.jformat.proofs.Texts.{AreLeaves}
 use Rattle.jformat.proofs.Formatted.{format_of_integers, format_of_characters}
 use Rattle.jformat.proofs.formatting.format.Goals as goal
@@ -7,7 +7,7 @@ use Rattle.jformat.proofs.formatting.format.Goals as goal
 pub returns-in-Int : goal.returns-in-Int
 returns-in-Int c =
     let are : AreLeaves c.args.value.now c.items.result.now c.shape.result.now = record { kind_is = c.items.ensures.kind; atoms_are = c.items.ensures.atoms; axes_are = c.shape.ensures.value } in
-    subst (λ w. IsAnswer w c.format_integers.result) (format_of_integers _ _ _ _ _ are c.in-Int.is c.items-in-Int.ensures) c.format_integers.ensures
+    subst (λ w. Answers w c.format_integers.result) (format_of_integers _ _ _ _ _ are c.in-Int.is c.items-in-Int.ensures) c.format_integers.ensures
 
 pub returns-in-Ok : goal.returns-in-Ok
 returns-in-Ok c = format_of_characters c.args.value.now c.items.result.now _ c.items.ensures.kind c.in-Char.is ∙ ap (λ v. Ok v) (sym c.in-Ok.ensures)

@@ -3,7 +3,7 @@ use Rattle.jdata.specs.Noun.{noun, shape, product}
 use Rattle.jdata.specs.Trees.{noun_of}
 use Rattle.jdata.specs.declared.noun.Kind.TheVariants as sort
 use Rattle.jdata.specs.declared.noun.Atom.TheVariants as atom
-use Rattle.jarray.specs.Answers.{Answers}
+use Rattle.jdata.specs.Answers.{Answers}
 use Rattle.jmono.specs.Monads.{scalar_monad}
 use Rattle.jarray.specs.Numbers.{integers, all_or_first}
 use Rattle.jscalar.specs.Monads.{one_of}
