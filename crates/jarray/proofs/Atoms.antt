@@ -16,7 +16,7 @@ use Rattle.jdata.proofs.Matching.{plain_is, plain_int, plain_char, plain_box, pl
 pub alone_is_array : (n : ℤ) → IsArray (int_atom n)
 alone_is_array n =
     let flat : level (int_atom n) ≡ 0 = level_is (int_atom n) ∙ level_of_ints (n ∷ []) in
-    record { whole = refl; rank = omega arith; extent_at_most = omega arith; level_at_most = omega (arith, flat) }
+    record { whole = refl; within = record { rank = omega arith; extent_at_most = omega arith }; level_at_most = omega (arith, flat) }
 
 pub alone_match : (m n : ℤ) → IsMatch (int_atom m) (int_atom n) ↔ (m ≡ n)
 alone_match m n = (λ e. let same : m ∷ [] ≡ n ∷ [] = ints_back (m ∷ []) (n ∷ []) (match_atoms (int_atom m) (int_atom n) e) in cc, λ e. ap (λ x. plain (int_atom x)) e)

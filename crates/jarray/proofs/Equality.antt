@@ -5,6 +5,7 @@ use Rattle.std.specs.Str.{bytes_eq}
 use Rattle.std.specs.Bool.{Decides}
 use Rattle.std.proofs.lemmas.Bool.Decides.{Decides-eqb, Decides-int_eq, Decides-and, Decides-like, Decides-at}
 use Rattle.std.proofs.lemmas.Slice.Eq.{bytes_eq-Decides}
+use Rattle.jdata.specs.Kinds.{kinds_match, same_kind}
 use Rattle.jdata.specs.Noun.{noun, shape, kind, atoms}
 use Rattle.jdata.specs.Match.{IsMatch, plain, plain_atom, plain_kind}
 use Rattle.jdata.specs.declared.noun.Kind.{Kind}
@@ -15,7 +16,7 @@ use Rattle.jdata.specs.declared.noun.Atom.TheOpen as one
 use Rattle.jdata.specs.declared.noun.Atom.TheVariants as atom
 use Rattle.jdata.specs.declared.path.PyxId.{PyxId}
 use Rattle.jdata.proofs.Matching.{plain_is, plain_int, plain_char, plain_box, plain_pyx, match_shape, match_atoms, same_box}
-use Rattle.jarray.specs.Matches.{matches, equal_atoms, atom_step, noun_step, each_passes, kinds_match, same_kind, is_int, is_char, is_box, is_pyx}
+use Rattle.jarray.specs.Matches.{matches, equal_atoms, atom_step, noun_step, each_passes, is_int, is_char, is_box, is_pyx}
 
 abbrev pub Equal : Atom → Type 0
 Equal a = (b : Atom) → Decides (equal_atoms a b) (plain_atom a ≡ plain_atom b)

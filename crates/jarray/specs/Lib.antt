@@ -1,3 +1,4 @@
 pub mod Arrays
 pub mod Matches
 pub mod Numbers
+pub mod Placed

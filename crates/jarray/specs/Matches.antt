@@ -2,10 +2,9 @@
 use Rattle.std.specs.Prelude.{ℕ, ℤ, Bool, true, false, ◌==◌, ◌&&◌, List, [], ◌∷◌}
 use Rattle.std.specs.Ordering.{int_eq}
 use Rattle.std.specs.Str.{bytes_eq}
+use Rattle.jdata.specs.Kinds.{kinds_match}
 use Rattle.jdata.specs.Noun.{shape, kind, atoms}
 use Rattle.jdata.specs.declared.noun.Noun.{Noun, Noun-F, fold-Noun}
-use Rattle.jdata.specs.declared.noun.Kind.{Kind}
-use Rattle.jdata.specs.declared.noun.Kind.TheVariants as sort
 use Rattle.jdata.specs.declared.noun.Atom.{Atom, Atom-F, fold-Atom, out-Atom}
 use Rattle.jdata.specs.declared.noun.Atom.TheOpen as one
 use Rattle.jdata.specs.declared.path.PyxId.{PyxId}
@@ -39,17 +38,6 @@ abbrev pub each_passes : List (Atom → Bool) → List Atom → Bool
 each_passes [] [] = true
 each_passes (test ∷ tests) (a ∷ rest) = test a && each_passes tests rest
 each_passes tests rest = false
-
-abbrev pub same_kind : Kind → Kind → Bool
-same_kind sort.Int sort.Int = true
-same_kind sort.Char sort.Char = true
-same_kind sort.Boxed sort.Boxed = true
-same_kind one_ other = false
-
--- where there are no atoms no kind counts
-abbrev pub kinds_match : Kind → Kind → List Atom → Bool
-kinds_match k m [] = true
-kinds_match k m (a ∷ rest) = same_kind k m
 
 -- equal shapes, one kind, and equal atoms place by place
 abbrev pub noun_step : Noun-F (Atom → Bool) (Noun → Bool) → Noun → Bool

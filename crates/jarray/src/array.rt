@@ -1,45 +1,39 @@
 //! Arrays.
 
-ghost use Rattle.std.specs.Prelude.{◌≡◌, ◌↔◌, ◌≢◌, IfOk, IfSome, IfNone, IsTrue, ℤ, length};
-ghost use Rattle.jdata.specs.Noun.{shape, kind, atoms, int_atom};
+ghost use Rattle.std.specs.Prelude.{◌≡◌, ◌↔◌, ◌≢◌, ◌<◌, [], IfOk, IsOk, IfSome, IfNone, IsTrue, None, false, true, ℤ, length, map};
+ghost use Rattle.jdata.specs.Leaf.{kind_in, atoms_in};
 ghost use Rattle.jdata.specs.Limits.{IsArray};
 ghost use Rattle.jdata.specs.Match.{IsMatch};
-ghost use Rattle.jdata.specs.Trees.{kind_of, atoms_of};
-ghost use Rattle.jarray.specs.Arrays.{seen, kind_seen, atoms_seen};
+ghost use Rattle.jdata.specs.Noun.{shape, kind, atoms, int_atom};
+ghost use Rattle.jdata.specs.declared.noun.Atom.TheVariants as atom;
+ghost use Rattle.jarray.specs.Numbers.{is_integers};
+ghost use Rattle.jarray.specs.Placed.{own};
 
-use crate::room::Room;
-use jdata::{Cell, Kind, Leaves, NoMemory, Tree};
+use crate::room::{Room, Spot};
+use jdata::{Kind, Leaf, NoMemory, Tree};
 use std::alloc::Global;
 use std::marker::Model;
 use std::slice;
 
 /// How an array is kept.
 #[derive(Debug, Drop)]
-pub enum Form {
+enum Form {
     /// An integer that stands alone.
     Atom(i64),
     /// An array in memory of its own.
     Own(Tree),
 }
 
-/// The atoms of an array in ravel order, where they lie.
-#[derive(Clone, Copy, Debug)]
-pub enum Items<'a> {
-    Int(&'a [i64]),
-    Char(&'a [u8]),
-    Cell(&'a [Cell]),
-}
-
-/// An array, which contracts see as its noun.
+/// An array, which contracts see as its noun and the block that it stands in.
 #[derive(Debug, Drop)]
 pub struct Array {
     form: Form,
 }
 
 impl Model for Array {
-    ghost use Rattle.jdata.specs.declared.noun.Noun.{Noun};
+    ghost use Rattle.jarray.specs.Placed.{Placed};
 
-    ghost Value = { Noun };
+    ghost Value = { Placed };
 
     ghost use Rattle.jdata.specs.contracts.noun.Noun as noun;
     ghost use Rattle.std.specs.Coded.{codes};
@@ -54,7 +48,7 @@ impl Model for Array {
 impl Array {
     /// An integer that stands alone. No memory.
     pub fn atom(number: i64) -> Array
-        ensures { result ≡ int_atom number }
+        ensures { result ≡ own (int_atom number) }
     {
         Array {
             form: Form::Atom(number),
@@ -63,30 +57,15 @@ impl Array {
 
     /// This tree as an array. No memory.
     pub fn of(tree: Tree) -> Array
-        ensures { result ≡ tree }
+        ensures { result ≡ own tree }
     {
         Array {
             form: Form::Own(tree),
         }
     }
 
-    /// How it is kept.
-    pub fn form(&self) -> &Form
-        ensures { seen result.now ≡ self.now }
-    {
-        &self.form
-    }
-
-    /// How it is kept, with what is kept.
-    pub fn into_form(self) -> Form
-        ensures { seen result ≡ self }
-    {
-        let Array { form } = self;
-        form
-    }
-
-    pub fn kind(&self) -> Kind
-        ensures { result ≡ kind self.now }
+    pub fn kind(&self, _room: &Room) -> Kind
+        ensures { result ≡ kind self.now.noun }
     {
         match &self.form {
             Form::Atom(_) => Kind::Int,
@@ -95,9 +74,9 @@ impl Array {
     }
 
     /// The lengths along the axes, the first axis first.
-    pub fn shape(&self) -> &[u64]
-        ensures value { result.now ≡ shape self.now }
-        ensures array { IsArray self.now }
+    pub fn shape<'a>(&'a self, _room: &Room) -> &'a [u64]
+        ensures value { result.now ≡ shape self.now.noun }
+        ensures array { IsArray self.now.noun }
     {
         match &self.form {
             Form::Atom(_) => &[],
@@ -106,20 +85,34 @@ impl Array {
     }
 
     /// The atoms in ravel order, where they lie.
-    pub fn items(&self) -> Items<'_>
-        ensures kind { kind_seen result ≡ kind self.now }
-        ensures atoms { atoms_seen result ≡ atoms self.now }
+    pub fn leaf<'a>(&'a self, _room: &Room) -> Leaf<'a>
+        ensures kind { kind_in result ≡ kind self.now.noun }
+        ensures atoms { atoms_in result ≡ atoms self.now.noun }
     {
         match &self.form {
-            Form::Atom(number) => Items::Int(slice::from_ref(number)),
-            Form::Own(tree) => items_of(tree.items()),
+            Form::Atom(number) => Leaf::Int(slice::from_ref(number)),
+            Form::Own(tree) => tree.leaf(),
+        }
+    }
+
+    /// The integers in ravel order, where they lie, if it counts as an array of integers: one
+    /// without atoms does.
+    pub fn numbers<'a>(&'a self, room: &Room) -> Option<&'a [i64]>
+        ensures some { IfSome result (λ l. map atom.Int l.now ≡ atoms self.now.noun) }
+        ensures integers { IfSome result (λ l. is_integers self.now.noun ≡ true) }
+        ensures none { IfNone result (is_integers self.now.noun ≡ false) }
+    {
+        let leaf = self.leaf(room);
+        match leaf {
+            Leaf::Int(numbers) => Some(numbers),
+            _ => no_numbers(leaf.len()),
         }
     }
 
     /// The number, where it is an integer that stands alone.
-    pub fn integer(&self) -> Option<i64>
-        ensures some { IfSome result (λ n. self.now ≡ int_atom n) }
-        ensures none { IfNone result ((n : ℤ) → self.now ≢ int_atom n) }
+    pub fn integer(&self, _room: &Room) -> Option<i64>
+        ensures some { IfSome result (λ n. self.now.noun ≡ int_atom n) }
+        ensures none { IfNone result ((n : ℤ) → self.now.noun ≢ int_atom n) }
     {
         match &self.form {
             Form::Atom(number) => Some(*number),
@@ -129,7 +122,7 @@ impl Array {
 
     /// A tree equal to it, in memory of its own.
     pub fn tree(&self, alloc: Global, _room: &Room) -> Result<Tree, NoMemory>
-        ensures { IfOk result (λ t. t ≡ self.now) }
+        ensures { IfOk result (λ t. t ≡ self.now.noun) }
     {
         match &self.form {
             Form::Atom(number) => Tree::atom(alloc, *number),
@@ -137,9 +130,11 @@ impl Array {
         }
     }
 
-    /// The tree that it is: an array in memory of its own is given as it is, with no copy.
-    pub fn into_tree(self, alloc: Global) -> Result<Tree, NoMemory>
-        ensures { IfOk result (λ t. t ≡ self) }
+    /// The tree that it is: an array in memory of its own is given as it is, with no copy. No memory
+    /// for such an array, unless it is an integer that stands alone.
+    pub fn into_tree(self, alloc: Global, _room: &mut Room) -> Result<Tree, NoMemory>
+        ensures value { IfOk result (λ t. t ≡ self.noun) }
+        ensures own { self.block ≡ None → ((n : ℤ) → self.noun ≢ int_atom n) → IsOk result }
     {
         let Array { form } = self;
         match form {
@@ -148,30 +143,47 @@ impl Array {
         }
     }
 
+    /// The tree that it is, to be written in, and the place where the tree then goes back: no copy
+    /// where nobody else holds it.
+    pub fn take_out(self, alloc: Global, room: &mut Room) -> Result<(Tree, Spot), NoMemory>
+        ensures tree { IfOk result (λ r. r.0 ≡ self.noun) }
+        ensures spot { IfOk result (λ r. r.1 ≡ self.block) }
+        ensures own { self.block ≡ None → ((n : ℤ) → self.noun ≢ int_atom n) → IsOk result }
+    {
+        match self.into_tree(alloc, room) {
+            Ok(tree) => Ok((tree, Spot::none())),
+            Err(NoMemory) => Err(NoMemory),
+        }
+    }
+
     /// Puts it where several owners can hold it, if the room has such a place. No memory.
     pub fn place(self, _room: &mut Room) -> Array
-        ensures { result ≡ self }
+        ensures { result.noun ≡ self.noun }
     {
         self
     }
 
-    /// A second array equal to this one, which stays as it was.
-    pub fn dup(&mut self, alloc: Global, _room: &Room) -> Result<Array, NoMemory>
-        ensures equal { IfOk result (λ a. a ≡ self.old) }
+    /// A second array equal to this one, which stays as it was. An integer that stands alone takes
+    /// no memory.
+    pub fn dup(&mut self, alloc: Global, room: &Room) -> Result<Array, NoMemory>
+        ensures equal { IfOk result (λ a. a.noun ≡ self.old.noun) }
         ensures kept { self.new ≡ self.old }
+        ensures alone { (n : ℤ) → self.old.noun ≡ int_atom n → IsOk result }
     {
-        match &self.form {
-            Form::Atom(number) => Ok(Array::atom(*number)),
-            Form::Own(tree) => match tree.copy(alloc) {
-                Ok(copy) => Ok(Array::of(copy)),
-                Err(NoMemory) => Err(NoMemory),
-            },
+        if let Some(number) = self.integer(room) {
+            return Ok(Array::atom(number));
+        }
+        match self.tree(alloc, room) {
+            Ok(copy) => Ok(Array::of(copy)),
+            Err(NoMemory) => Err(NoMemory),
         }
     }
 
-    /// An array equal to this one, which nobody else holds.
+    /// An array equal to this one, which nobody else holds. No memory where it is in no block.
     pub fn into_sole(self, _alloc: Global, _room: &mut Room) -> Result<Array, NoMemory>
-        ensures { IfOk result (λ a. a ≡ self) }
+        ensures equal { IfOk result (λ a. a.noun ≡ self.noun) }
+        ensures block { IfOk result (λ a. a.block ≡ self.block) }
+        ensures own { self.block ≡ None → IsOk result }
     {
         Ok(self)
     }
@@ -179,7 +191,7 @@ impl Array {
     /// Whether the two match: their shapes and atoms are equal, and where they have no atoms their
     /// shapes alone. No memory.
     pub fn match_with(&self, _room: &Room, other: &Array) -> bool
-        ensures { IsTrue result ↔ IsMatch self.now other.now }
+        ensures { IsTrue result ↔ IsMatch self.now.noun other.now.noun }
     {
         match (&self.form, &other.form) {
             (Form::Atom(left), Form::Atom(right)) => equal(left, right),
@@ -193,29 +205,12 @@ impl Array {
     pub fn done(self, _room: &mut Room) {}
 }
 
-impl Items<'_> {
-    /// How many atoms they are.
-    pub fn len(&self) -> usize
-        ensures { result ≡ length (atoms_seen self.now) }
-    {
-        match self {
-            Items::Int(numbers) => numbers.len(),
-            Items::Char(bytes) => bytes.len(),
-            Items::Cell(cells) => cells.len(),
-        }
-    }
-}
-
-/// The atoms of leaves, where they lie.
-pub fn items_of(leaves: &Leaves) -> Items<'_>
-    ensures kind { kind_seen result ≡ kind_of leaves.now }
-    ensures atoms { atoms_seen result ≡ atoms_of leaves.now }
+// what a view of other atoms than integers gives: nothing, where there is one
+fn no_numbers<'a>(count: usize) -> Option<&'a [i64]>
+    ensures some { IfSome result (λ l. (l.now ≡ []) × (count ≡ 0)) }
+    ensures none { IfNone result (0 < count) }
 {
-    match leaves {
-        Leaves::Int(numbers) => Items::Int(numbers.items()),
-        Leaves::Char(bytes) => Items::Char(bytes.items()),
-        Leaves::Cell(cells) => Items::Cell(cells.items()),
-    }
+    if count == 0 { Some(&[]) } else { None }
 }
 
 fn equal(left: &i64, right: &i64) -> bool

@@ -3,9 +3,11 @@
 
 mod array;
 mod room;
+mod whole;
 
-pub use array::{Array, Form, Items, items_of};
-pub use room::Room;
+pub use array::Array;
+pub use room::{Room, Spot};
+pub use whole::integers;
 
 #[cfg(test)]
 mod tests;

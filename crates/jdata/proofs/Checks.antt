@@ -3,7 +3,7 @@ use Rattle.std.specs.Prelude.{◌<◌, ◌≤◌, ◌≡◌, ◌≢◌, ◌&&◌
 use Rattle.std.proofs.Common.{refl, ◌∙◌, eq-eqb}
 use Rattle.std.proofs.lemmas.Bool.{lt-leb, le-leb, ne_eqb}
 use Rattle.jdata.specs.Noun.{shape, atoms, level, product, extent}
-use Rattle.jdata.specs.Limits.{checked}
+use Rattle.jdata.specs.Limits.{checked, most_axes, most_atoms, most_levels}
 use Rattle.jdata.specs.declared.noun.Noun.{Noun}
 use Rattle.jdata.specs.declared.tree.BadTree.{BadTree}
 use Rattle.jdata.specs.declared.tree.BadTree.TheVariants as bad
@@ -29,26 +29,26 @@ third true true false v r h = refl
 third true false c v r h = refl
 third false b c v r h = refl
 
-pub too_many_axes : (v : Noun) → 63 < length (shape v) → checked v ≡ Err bad.Limit
-too_many_axes v h = first (nat_le (length (shape v)) 63) (nat_le (extent (shape v)) 134217728) (nat_le (level v) 64) v (size_answer v) (lt-leb _ _ h)
+pub too_many_axes : (v : Noun) → most_axes < length (shape v) → checked v ≡ Err bad.Limit
+too_many_axes v h = first (nat_le (length (shape v)) most_axes) (nat_le (extent (shape v)) most_atoms) (nat_le (level v) most_levels) v (size_answer v) (lt-leb _ _ h)
 
-pub too_large : (v : Noun) → 134217728 < extent (shape v) → checked v ≡ Err bad.Limit
-too_large v h = second (nat_le (length (shape v)) 63) (nat_le (extent (shape v)) 134217728) (nat_le (level v) 64) v (size_answer v) (lt-leb _ _ h)
+pub too_large : (v : Noun) → most_atoms < extent (shape v) → checked v ≡ Err bad.Limit
+too_large v h = second (nat_le (length (shape v)) most_axes) (nat_le (extent (shape v)) most_atoms) (nat_le (level v) most_levels) v (size_answer v) (lt-leb _ _ h)
 
-pub too_deep : (v : Noun) → 64 < level v → checked v ≡ Err bad.Limit
-too_deep v h = third (nat_le (length (shape v)) 63) (nat_le (extent (shape v)) 134217728) (nat_le (level v) 64) v (size_answer v) (lt-leb _ _ h)
+pub too_deep : (v : Noun) → most_levels < level v → checked v ≡ Err bad.Limit
+too_deep v h = third (nat_le (length (shape v)) most_axes) (nat_le (extent (shape v)) most_atoms) (nat_le (level v) most_levels) v (size_answer v) (lt-leb _ _ h)
 
 all : (a b c : Bool) (v : Noun) (r : Result Noun BadTree) → a ≡ true → b ≡ true → c ≡ true → answer (a && (b && c)) v r ≡ r
 all a b c v r p q s = rw (p, q, s) refl
 
-pub wrong_length : (v : Noun) → length (shape v) ≤ 63 → extent (shape v) ≤ 134217728 → level v ≤ 64 →
+pub wrong_length : (v : Noun) → length (shape v) ≤ most_axes → extent (shape v) ≤ most_atoms → level v ≤ most_levels →
     length (atoms v) ≢ product (shape v) → checked v ≡ Err (bad.Length (product (shape v)) (length (atoms v)))
 wrong_length v rank ext deep other =
     let go : (b : Bool) → b ≡ false → cond b (Ok v) (Err (bad.Length (product (shape v)) (length (atoms v)))) ≡ Err (bad.Length (product (shape v)) (length (atoms v))) = λ b e. rw e refl in
-    all (nat_le (length (shape v)) 63) (nat_le (extent (shape v)) 134217728) (nat_le (level v) 64) v (size_answer v) (le-leb _ _ rank) (le-leb _ _ ext) (le-leb _ _ deep) ∙ go _ (ne_eqb _ _ other)
+    all (nat_le (length (shape v)) most_axes) (nat_le (extent (shape v)) most_atoms) (nat_le (level v) most_levels) v (size_answer v) (le-leb _ _ rank) (le-leb _ _ ext) (le-leb _ _ deep) ∙ go _ (ne_eqb _ _ other)
 
-pub passes : (v : Noun) → length (shape v) ≤ 63 → extent (shape v) ≤ 134217728 → level v ≤ 64 →
+pub passes : (v : Noun) → length (shape v) ≤ most_axes → extent (shape v) ≤ most_atoms → level v ≤ most_levels →
     length (atoms v) ≡ product (shape v) → checked v ≡ Ok v
 passes v rank ext deep whole =
     let go : (b : Bool) → b ≡ true → cond b (Ok v) (Err (bad.Length (product (shape v)) (length (atoms v)))) ≡ Ok v = λ b e. rw e refl in
-    all (nat_le (length (shape v)) 63) (nat_le (extent (shape v)) 134217728) (nat_le (level v) 64) v (size_answer v) (le-leb _ _ rank) (le-leb _ _ ext) (le-leb _ _ deep) ∙ go _ (eq-eqb _ _ whole)
+    all (nat_le (length (shape v)) most_axes) (nat_le (extent (shape v)) most_atoms) (nat_le (level v) most_levels) v (size_answer v) (le-leb _ _ rank) (le-leb _ _ ext) (le-leb _ _ deep) ∙ go _ (eq-eqb _ _ whole)

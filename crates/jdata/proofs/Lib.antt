@@ -1,8 +1,12 @@
+pub mod Arrays
 pub mod Checks
 pub mod Extents
 pub mod FirstPyx
+pub mod Indexing
 pub mod Levels
+pub mod Lists
 pub mod Matching
 pub mod Names
 pub mod Opening
 pub mod Sizes
+pub mod Spellings

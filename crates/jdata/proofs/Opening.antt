@@ -3,7 +3,7 @@ use Rattle.std.specs.Prelude.{ℕ, ◌<◌, ◌≤◌, ◌≡◌, Option, Some, 
 use Rattle.std.proofs.Common.{arith, sym, ◌∙◌, ap, refl, zero, suc, take, get_or, set}
 use Rattle.std.proofs.lemmas.List.{take-map, length-map, set-set}
 use Rattle.std.proofs.lemmas.Option.{get_or_from_slice_get}
-use Rattle.jdata.specs.Limits.{IsArray}
+use Rattle.jdata.specs.Limits.{IsArray, most_levels}
 use Rattle.jdata.specs.Noun.{atoms, shape, kind, noun, greatest, atom_level, level, product}
 use Rattle.jdata.specs.Pyxes.{opened, opened_atom, opened_atoms, opening_step, first_opened, atom_pyx, first_some}
 use Rattle.jdata.specs.Trees.{atom_of, atoms_of, kind_of, noun_of, IsKept}
@@ -98,7 +98,7 @@ cells_written value cs now after final i c d x same within found before this hol
 
 pub cells_too_deep : (value : Noun) (cs now : List Cell) (i : ℕ) (c : Cell) → now ≡ cs → i < length now →
     IfSome (slice_get now i) (λ y. IsSome (atom_pyx (atom_of y))) → first_some (map atom_pyx (map atom_of (take i now))) ≡ None →
-    slice_get cs i ≡ Some c → 64 < atom_level (opened_atom value (atom_of c)) → 64 < greatest (map atom_level (opened_atoms value (map atom_of cs)))
+    slice_get cs i ≡ Some c → most_levels < atom_level (opened_atom value (atom_of c)) → most_levels < greatest (map atom_level (opened_atoms value (map atom_of cs)))
 cells_too_deep value cs now i c same within found before this deep =
     let inside : i < length (map atom_of cs) = rw length-map (rw (← same) within) in
     rw (place_opens value cs now i c same within found before this) (omega (arith, deep, level_of_set (map atom_of cs) i (opened_atom value (atom_of c)) inside))
@@ -124,13 +124,13 @@ pub opened_level : (value v : Noun) (axes : List ℕ) (l : Leaves) (cs : List Ce
 opened_level value v axes l cs seen is = ap level (opened_kept value v axes l cs seen is) ∙ level_is (noun axes sort.Boxed (opened_atoms value (map atom_of cs)))
 
 pub still_array : (value : Noun) (axes : List ℕ) (l : Leaves) (cs after : List Cell) (n : ℕ) → IsArray (noun_of axes l) → l ≡ leaf.Cell cs →
-    map atom_of after ≡ opened_atoms value (map atom_of cs) → n ≡ greatest (map atom_level (map atom_of after)) → n ≤ 64 →
+    map atom_of after ≡ opened_atoms value (map atom_of cs) → n ≡ greatest (map atom_level (map atom_of after)) → n ≤ most_levels →
     IsKept (record { axes = axes; leaves = leaf.Cell after; depth = n })
 still_array value axes l cs after n array is new deep most =
     let v = noun_of axes (leaf.Cell after) in
     let depth : n ≡ level v = deep ∙ sym (level_is v) in
     let whole : length (map atom_of after) ≡ product axes = ap length new ∙ length_opened value (map atom_of cs) ∙ ap (λ m. length (atoms_of m)) (sym is) ∙ array.whole in
     record {
-      array = record { whole = whole; rank = array.rank; extent_at_most = array.extent_at_most; level_at_most = omega (arith, depth, most) };
+      array = record { whole = whole; within = array.within; level_at_most = omega (arith, depth, most) };
       depth_is = depth;
     }

@@ -1,5 +1,5 @@
 -- When a shape and atoms are an array, and what is wrong with them where they aren't.
-use Rattle.std.specs.Prelude.{◌≡◌, ◌≤◌, ◌==◌, ◌&&◌, nat_le, Bool, if◌then◌else◌, Result, Ok, Err, length}
+use Rattle.std.specs.Prelude.{◌≡◌, ◌≤◌, ◌==◌, ◌&&◌, nat_le, ℕ, Bool, if◌then◌else◌, List, Result, Ok, Err, length}
 use Rattle.jdata.specs.Noun.{shape, atoms, level, product, extent}
 use Rattle.jdata.specs.declared.fault.Fault.{Fault}
 use Rattle.jdata.specs.declared.fault.Fault.TheVariants as fault
@@ -7,9 +7,18 @@ use Rattle.jdata.specs.declared.noun.Noun.{Noun}
 use Rattle.jdata.specs.declared.tree.BadTree.{BadTree}
 use Rattle.jdata.specs.declared.tree.BadTree.TheVariants as bad
 
--- at most 63 axes, 2 ^ 27 atoms were no axis 0, and 64 levels
+abbrev pub most_axes : ℕ
+most_axes = 63
+
+-- 2 ^ 27, of the product of the axes that aren't 0
+abbrev pub most_atoms : ℕ
+most_atoms = 134217728
+
+abbrev pub most_levels : ℕ
+most_levels = 64
+
 abbrev pub is_within : Noun → Bool
-is_within v = nat_le (length (shape v)) 63 && (nat_le (extent (shape v)) 134217728 && nat_le (level v) 64)
+is_within v = nat_le (length (shape v)) most_axes && (nat_le (extent (shape v)) most_atoms && nat_le (level v) most_levels)
 
 abbrev pub checked : Noun → Result Noun BadTree
 checked v =
@@ -21,9 +30,13 @@ checked v =
 abbrev pub limited : Noun → Result Noun Fault
 limited v = if is_within v then Ok v else Err fault.Limit
 
+-- the axes are a shape
+pub record IsShape (axes : List ℕ) : Type 0 where
+  pub rank : length axes ≤ most_axes
+  pub extent_at_most : extent axes ≤ most_atoms
+
 -- what is true of every array
 pub record IsArray (v : Noun) : Type 0 where
   pub whole : length (atoms v) ≡ product (shape v)
-  pub rank : length (shape v) ≤ 63
-  pub extent_at_most : extent (shape v) ≤ 134217728
-  pub level_at_most : level v ≤ 64
+  pub within : IsShape (shape v)
+  pub level_at_most : level v ≤ most_levels

@@ -1,4 +1,5 @@
 ghost use Rattle.std.specs.Prelude.{◌≡◌, ◌<◌, ◌≤◌, MatchOption, map};
+ghost use Rattle.jdata.specs.Limits.{most_atoms};
 ghost use Rattle.jdata.specs.Noun.{product, extent, greatest, atom_level};
 ghost use Rattle.jdata.specs.Trees.{atom_of};
 
@@ -15,7 +16,7 @@ pub const MAX_LEVEL: u8 = 64;
 
 /// The product of the axes, or nothing where the product of those that aren't 0 is beyond the limit.
 pub fn product_within(axes: &[u64]) -> Option<u64>
-    ensures { MatchOption result (134217728 < extent axes.now) (λ n. (n ≡ product axes.now) × (extent axes.now ≤ 134217728)) }
+    ensures { MatchOption result (most_atoms < extent axes.now) (λ n. (n ≡ product axes.now) × (extent axes.now ≤ most_atoms)) }
 {
     let mut extent = 1;
     let mut is_empty = false;
@@ -29,6 +30,18 @@ pub fn product_within(axes: &[u64]) -> Option<u64>
         }
     }
     Some(if is_empty { 0 } else { extent })
+}
+
+/// The product of the axes, where that of those that aren't 0 is within the limit.
+pub fn product_of(axes: &[u64]) -> u64
+    requires { extent axes.now ≤ most_atoms }
+    ensures { result ≡ product axes.now }
+{
+    let mut product = 1;
+    for &axis in axes {
+        product *= axis;
+    }
+    product
 }
 
 /// The level of an array with these cells.

@@ -1,4 +1,4 @@
-ghost use Rattle.std.specs.Prelude.{◌≡◌, ◌<◌, IfOk, length, slice_get, slice_set};
+ghost use Rattle.std.specs.Prelude.{◌≡◌, ◌<◌, ◌++◌, ◌∷◌, [], IfOk, OnOk, OnErr, length, slice_get, slice_set};
 
 use crate::fault::NoMemory;
 use crate::name::Name;
@@ -64,6 +64,31 @@ impl<T> Sequence<T> {
     {
         let Sequence { items } = self;
         items
+    }
+}
+
+impl<T: Drop> Sequence<T> {
+    /// One more item, at the end. Without memory it stays as it was.
+    pub fn push(&mut self, item: T) -> Result<(), NoMemory>
+        ensures ok { OnOk result (self.new ≡ self.old ++ item ∷ []) }
+        ensures err { OnErr result (self.new ≡ self.old) }
+    {
+        match self.items.push(item) {
+            Ok(()) => Ok(()),
+            Err(_) => Err(NoMemory),
+        }
+    }
+
+    /// The items of another list, at the end. Without memory it stays as it was.
+    pub fn append(&mut self, other: Sequence<T>) -> Result<(), NoMemory>
+        ensures ok { OnOk result (self.new ≡ self.old ++ other) }
+        ensures err { OnErr result (self.new ≡ self.old) }
+    {
+        let mut items = other.into_items();
+        match self.items.append(&mut items) {
+            Ok(()) => Ok(()),
+            Err(_) => Err(NoMemory),
+        }
     }
 }
 

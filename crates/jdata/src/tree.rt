@@ -1,7 +1,8 @@
-ghost use Rattle.std.specs.Prelude.{◌≡◌, ◌≢◌, ◌≤◌, IfOk, IfSome, IfNone, length, map, ℤ};
-ghost use Rattle.jdata.specs.Noun.{shape, kind, atoms, level, int_atom};
+ghost use Rattle.std.specs.Prelude.{◌≡◌, ◌≢◌, ◌≤◌, ◌++◌, IfOk, OnOk, OnErr, IfSome, IfNone, length, map, ℤ};
+ghost use Rattle.jdata.specs.Noun.{shape, kind, atoms, level, product, int_atom};
 
-use crate::fault::NoMemory;
+use crate::fault::{Fault, NoMemory};
+use crate::leaf::Leaf;
 use crate::measure::{MAX_LEVEL, MAX_RANK, greatest_level, product_within};
 use crate::noun::Kind;
 use crate::path::PyxId;
@@ -80,7 +81,8 @@ impl Model for Tree {
 
 impl Tree {
     ghost use Rattle.jdata.specs.Trees.{noun_of, kind_of, atoms_of};
-    ghost use Rattle.jdata.specs.Limits.{checked, IsArray};
+    ghost use Rattle.jdata.specs.Leaf.{kind_in, atoms_in};
+    ghost use Rattle.jdata.specs.Limits.{checked, limited, most_levels, IsArray};
 
     /// The array of this shape with these atoms.
     pub fn new(shape: Vec<u64>, items: Leaves) -> Result<Tree, BadTree>
@@ -110,6 +112,18 @@ impl Tree {
         })
     }
 
+    /// The array of this shape with as many atoms as it wants. Its only fault is Limit.
+    pub fn limited(shape: Vec<u64>, items: Leaves) -> Result<Tree, Fault>
+        requires { length (atoms_of items) ≡ product shape.items }
+        ensures { result ≡ limited (noun_of shape.items items) }
+    {
+        match Tree::new(shape, items) {
+            Ok(tree) => Ok(tree),
+            Err(BadTree::Limit) => Err(Fault::Limit),
+            Err(BadTree::Length { .. }) => unreachable!(),
+        }
+    }
+
     /// An integer that stands alone.
     pub fn atom(alloc: Global, number: i64) -> Result<Tree, NoMemory>
         ensures { IfOk result (λ t. t ≡ int_atom number) }
@@ -137,6 +151,14 @@ impl Tree {
         &self.leaves
     }
 
+    /// The atoms in ravel order, where they lie.
+    pub fn leaf(&self) -> Leaf<'_>
+        ensures kind { kind_in result ≡ kind self.now }
+        ensures atoms { atoms_in result ≡ atoms self.now }
+    {
+        self.leaves.leaf()
+    }
+
     pub fn kind(&self) -> Kind
         ensures { result ≡ kind self.now }
     {
@@ -158,7 +180,7 @@ impl Tree {
     /// How deep boxes are nested in it: 0 where it has no boxes.
     pub fn level(&self) -> u8
         ensures value { result ≡ level self.now }
-        ensures at_most { result ≤ 64 }
+        ensures at_most { result ≤ most_levels }
     {
         self.depth
     }
@@ -176,8 +198,21 @@ impl Tree {
 }
 
 impl Leaves {
-    ghost use Rattle.jdata.specs.Trees.{kind_of, atoms_of};
+    ghost use Rattle.jdata.specs.Leaf.{kind_in, atoms_in};
     ghost use Rattle.jdata.specs.Noun.{greatest, atom_level};
+    ghost use Rattle.jdata.specs.Trees.{kind_of, atoms_of};
+
+    /// The atoms, where they lie.
+    pub fn leaf(&self) -> Leaf<'_>
+        ensures kind { kind_in result ≡ kind_of self.now }
+        ensures atoms { atoms_in result ≡ atoms_of self.now }
+    {
+        match self {
+            Leaves::Int(numbers) => Leaf::Int(numbers.items()),
+            Leaves::Char(bytes) => Leaf::Char(bytes.items()),
+            Leaves::Cell(cells) => Leaf::Cell(cells.items()),
+        }
+    }
 
     pub fn kind(&self) -> Kind
         ensures { result ≡ kind_of self.now }
@@ -197,6 +232,21 @@ impl Leaves {
             Leaves::Int(numbers) => numbers.items().len() as u64,
             Leaves::Char(bytes) => bytes.items().len() as u64,
             Leaves::Cell(cells) => cells.items().len() as u64,
+        }
+    }
+
+    /// Other atoms of the same kind, at the end. Without memory they stay as they were.
+    pub fn append(&mut self, other: Leaves) -> Result<(), NoMemory>
+        requires { kind_of other ≡ kind_of self.old }
+        ensures kind { kind_of self.new ≡ kind_of self.old }
+        ensures ok { OnOk result (atoms_of self.new ≡ atoms_of self.old ++ atoms_of other) }
+        ensures err { OnErr result (atoms_of self.new ≡ atoms_of self.old) }
+    {
+        match (self, other) {
+            (Leaves::Int(numbers), Leaves::Int(more)) => numbers.append(more),
+            (Leaves::Char(bytes), Leaves::Char(more)) => bytes.append(more),
+            (Leaves::Cell(cells), Leaves::Cell(more)) => cells.append(more),
+            _ => unreachable!(),
         }
     }
 

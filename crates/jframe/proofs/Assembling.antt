@@ -13,14 +13,14 @@ use Rattle.jdata.specs.declared.noun.Kind.{Kind}
 use Rattle.jdata.specs.declared.noun.Kind.TheVariants as sort
 use Rattle.jdata.specs.declared.noun.Atom.{Atom}
 use Rattle.jdata.specs.declared.fault.Fault.TheVariants as fault
-use Rattle.jshape.proofs.Extents.{parts_are_within}
+use Rattle.jdata.proofs.Extents.{parts_are_within, product-append}
+use Rattle.jdata.proofs.Lists.{same_map, split_map, factor_some}
 use Rattle.jdata.specs.Limits.{limited}
-use Rattle.jframe.specs.Assembly.{raised, greatest_rank, greatest_on, common_shape, has_atoms, same_kind, common_kind, kinds_agree, atom_of_result, whole_atom, no_result, whole, assembled, AreResults}
-use Rattle.jframe.specs.Cells.{fill_of}
-use Rattle.jframe.specs.Indexes.{index_at, at_or}
+use Rattle.jframe.specs.Assembly.{raised, greatest_rank, greatest_on, common_shape, has_atoms, common_kind, kinds_agree, atom_of_result, whole_atom, no_result, whole, assembled, AreResults}
+use Rattle.jdata.specs.Fills.{fill_of}
+use Rattle.jdata.specs.Indexes.{index_at, at_or}
+use Rattle.jdata.specs.Kinds.{same_kind}
 use Rattle.jframe.specs.Padding.{FitsIn, Joins, joined, spread}
-use Rattle.jframe.proofs.Arrays.{product-append}
-use Rattle.jframe.proofs.Spreading.{same_map, split_map, factor_some}
 
 -- pieces of c, one for each element, place by place
 pub pieces : {V A : Type 0} (g : V → ℕ → A) (us : List V) (c : ℕ) (d : V) (e : A) →
@@ -157,11 +157,11 @@ counted n m some (inl none) = absurd (some none)
 counted n m some (inr is) = is
 
 -- the two cases of the definition
-chosen : {X : Type 0} (b : Bool) (x y : X) → b ≡ true → (if b then x else y) ≡ x
+pub chosen : {X : Type 0} (b : Bool) (x y : X) → b ≡ true → (if b then x else y) ≡ x
 chosen true x y e = refl
 chosen false x y e = cc
 
-refused : {X : Type 0} (b : Bool) (x y : X) → b ≡ false → (if b then x else y) ≡ y
+pub refused : {X : Type 0} (b : Bool) (x y : X) → b ≡ false → (if b then x else y) ≡ y
 refused true x y e = cc
 refused false x y e = refl
 

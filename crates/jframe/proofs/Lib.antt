@@ -1,5 +1,9 @@
-pub mod Lists
+pub mod Alike
+pub mod Applying
 pub mod Arrays
-pub mod Spreading
-pub mod Joining
 pub mod Assembling
+pub mod Firsts
+pub mod Joined
+pub mod Pairing
+pub mod Pushing
+pub mod Spreading

@@ -8,31 +8,10 @@ use Rattle.std.proofs.lemmas.List.{get_or-drop, append_assoc, append-nil, length
 use Rattle.std.proofs.lemmas.List.FromFn.{fill_by_all, map-range_with_len_more, length-map-range_with_len, get_or-map-range_with_len}
 use Rattle.std.proofs.lemmas.Nat.{div-mul-add, mod-mul-add, div_below, le-div}
 use Rattle.jdata.specs.Noun.{product, extent}
-use Rattle.jshape.proofs.Extents.{parts_are_within}
-use Rattle.jframe.specs.Indexes.{index_at, place_at, has_index, at_or}
+use Rattle.jdata.proofs.Extents.{parts_are_within, product_at_most}
+use Rattle.jdata.proofs.Lists.{same_map, split_map, constant_map, factor_some, take_more_of}
+use Rattle.jdata.specs.Indexes.{index_at, place_at, has_index, at_or}
 use Rattle.jframe.specs.Padding.{FitsIn, spread}
-use Rattle.jframe.proofs.Arrays.{product_at_most}
-
--- two functions that agree at the places below n
-pub same_map : {A : Type 0} (f h : ℕ → A) (n : ℕ) (d : A) → ((p : ℕ) → p < n → f p ≡ h p) → map f (range_with_len 0 n) ≡ map h (range_with_len 0 n)
-same_map f h n d same =
-    fill_by_all h (map f (range_with_len 0 n)) n d (length-map-range_with_len f 0 n) (λ k below. get_or-map-range_with_len f 0 n k k d below (omega arith) ∙ same k below)
-
-pub split_map : {A : Type 0} (f : ℕ → A) (a b : ℕ) → map f (range_with_len 0 (a + b)) ≡ map f (range_with_len 0 a) ++ map (λ p. f (a + p)) (range_with_len 0 b)
-split_map f a zero = ap (λ n. map f (range_with_len 0 n)) (omega arith) ∙ sym (append-nil (map f (range_with_len 0 a)))
-split_map f a (suc b) =
-    let more : a + suc b ≡ (a + b) + 1 = omega arith in
-    let one : suc b ≡ b + 1 = omega arith in
-    ap (λ n. map f (range_with_len 0 n)) more
-    ∙ map-range_with_len_more f 0 (a + b) (a + b) (omega arith)
-    ∙ ap (λ l. l ++ f (a + b) ∷ []) (split_map f a b)
-    ∙ append_assoc (map f (range_with_len 0 a)) (map (λ p. f (a + p)) (range_with_len 0 b)) (f (a + b) ∷ [])
-    ∙ ap (λ l. map f (range_with_len 0 a) ++ l) (sym (map-range_with_len_more (λ p. f (a + p)) 0 b b (omega arith)))
-    ∙ ap (λ n. map f (range_with_len 0 a) ++ map (λ p. f (a + p)) (range_with_len 0 n)) (sym one)
-
-pub constant_map : {A : Type 0} (x : A) (a n : ℕ) → map (λ p. x) (range_with_len a n) ≡ replicate n x
-constant_map x a zero = refl
-constant_map x a (suc n) = ap (λ l. x ∷ l) (constant_map x (a + 1) n)
 
 -- an index whose first number is beyond the first axis, or within it
 beyond : {A : Type 0} (f : A) (m : ℕ) (ms : List ℕ) (items : List A) (i : ℕ) (is : List ℕ) → m ≤ i → at_or f (m ∷ ms) items (i ∷ is) ≡ f
@@ -45,10 +24,6 @@ within {A = A} f m ms items i is h =
     let go : (b : Bool) (x y : A) → b ≡ true → x ≡ y → (if b && has_index ms is then x else f) ≡ (if has_index ms is then y else f) = λ b x y e g. rw (e, g) refl in
     go (nat_lt i m) (get_or items (i * product ms + place_at ms is) f) (get_or (drop (i * product ms) items) (place_at ms is) f) (lt-ltb i m h)
     (sym (get_or-drop (i * product ms) items (place_at ms is) f))
-
-pub factor_some : (p i c : ℕ) → p < i * c → 0 < c
-factor_some p i zero h = absurd (omega (arith, mul-zero i, h))
-factor_some p i (suc c) h = omega arith
 
 two_parts : (m k c : ℕ) → (m + k) * c ≡ m * c + k * c
 two_parts m k c = omega arith
@@ -104,12 +79,6 @@ spread_filled {A = A} f m n ns ms items h =
     ap (λ k. map all (range_with_len 0 k)) count
     ∙ split_map all (m * c) ((n - m) * c)
     ∙ ap (λ l. map all (range_with_len 0 (m * c)) ++ l) (same_map (λ q. all (m * c + q)) (λ q. f) ((n - m) * c) f back ∙ constant_map f 0 ((n - m) * c))
-
-take_more_of : {A : Type 0} (a b : ℕ) (l : List A) → take a l ++ take b (drop a l) ≡ take (a + b) l
-take_more_of a b l =
-    ap (λ r. r ++ take b (drop a l)) (sym (take-take a (a + b) l (omega arith)))
-    ∙ ap (λ r. take a (take (a + b) l) ++ r) (sym (drop-take a b l))
-    ∙ take-append-drop a (take (a + b) l)
 
 -- so many rows whose items are all there
 spread_rows : {A : Type 0} (f : A) (n : ℕ) (ns : List ℕ) (items : List A) →

@@ -2,16 +2,18 @@
 -- axes of 1, and shorter axes are filled.
 use Rattle.std.specs.Prelude.{◌≡◌, ℕ, ◌-◌, ◌/◌, ◌%◌, max, nat_lt, Bool, true, false, if◌then◌else◌, List, [], ◌∷◌, ◌++◌, length, map, replicate, get_or, Result, Err}
 use Rattle.std.specs.List.{range_with_len, filter, list_all}
+use Rattle.jdata.specs.Fills.{fill_of}
+use Rattle.jdata.specs.Indexes.{index_at, at_or}
+use Rattle.jdata.specs.Kinds.{same_kind}
 use Rattle.jdata.specs.Noun.{shape, kind, atoms, noun, product, greatest}
 use Rattle.jdata.specs.Limits.{limited}
+use Rattle.jdata.specs.Tabulated.{tabulated}
 use Rattle.jdata.specs.declared.noun.Noun.{Noun}
 use Rattle.jdata.specs.declared.noun.Kind.{Kind}
 use Rattle.jdata.specs.declared.noun.Kind.TheVariants as sort
 use Rattle.jdata.specs.declared.noun.Atom.{Atom}
 use Rattle.jdata.specs.declared.fault.Fault.{Fault}
 use Rattle.jdata.specs.declared.fault.Fault.TheVariants as fault
-use Rattle.jframe.specs.Cells.{fill_of}
-use Rattle.jframe.specs.Indexes.{index_at, at_or}
 
 -- a shape with leading axes of 1 up to a rank
 abbrev pub raised : ℕ → List ℕ → List ℕ
@@ -39,12 +41,6 @@ first_kind (v ∷ vs) = kind v
 abbrev pub common_kind : List Noun → Kind
 common_kind vs = first_kind (filter has_atoms vs ++ vs)
 
-abbrev pub same_kind : Kind → Kind → Bool
-same_kind sort.Int sort.Int = true
-same_kind sort.Char sort.Char = true
-same_kind sort.Boxed sort.Boxed = true
-same_kind k l = false
-
 -- whether all but one kind have no atoms
 abbrev pub kinds_agree : List Noun → Bool
 kinds_agree vs = list_all (λ v. same_kind (kind v) (common_kind vs)) (filter has_atoms vs)
@@ -66,7 +62,7 @@ whole_atom vs place =
 abbrev pub whole : List ℕ → List Noun → Noun
 whole frame vs =
     let axes = frame ++ common_shape vs in
-    noun axes (common_kind vs) (map (whole_atom vs) (range_with_len 0 (product axes)))
+    tabulated axes (common_kind vs) (whole_atom vs)
 
 -- the results in one array, or why they are none: their kinds differ, or it is beyond the limits of an array
 unfoldable pub assembled : List ℕ → List Noun → Result Noun Fault

@@ -1,19 +1,11 @@
 -- Cells of arrays (J Dictionary, "Verbs"; NuVoc, "Rank"). The axes of frames and cells are `frame_of` and `cell_of` of jshape.
-use Rattle.std.specs.Prelude.{ℕ, ◌+◌, ◌*◌, ℤ, pos, Option, List, [], ◌∷◌, map, replicate, get_or}
+use Rattle.std.specs.Prelude.{ℕ, ◌+◌, ◌*◌, ℤ, Option, List, map, replicate, get_or}
 use Rattle.std.specs.List.{range_with_len}
+use Rattle.jdata.specs.Fills.{fill_of}
 use Rattle.jdata.specs.Noun.{shape, kind, atoms, noun, product}
 use Rattle.jdata.specs.declared.noun.Noun.{Noun}
 use Rattle.jdata.specs.declared.noun.Kind.{Kind}
-use Rattle.jdata.specs.declared.noun.Kind.TheVariants as sort
-use Rattle.jdata.specs.declared.noun.Atom.{Atom}
-use Rattle.jdata.specs.declared.noun.Atom.TheVariants as atom
 use Rattle.jshape.specs.Frames.{frame_of, cell_of}
-
--- the fill of a kind: 0, a blank, or a box with an empty list of integers
-abbrev pub fill_of : Kind → Atom
-fill_of sort.Int = atom.Int (pos 0)
-fill_of sort.Char = atom.Char 32
-fill_of sort.Boxed = atom.Box (noun (0 ∷ []) sort.Int [])
 
 -- a shape in its two parts
 pub record Parted : Type 0 where

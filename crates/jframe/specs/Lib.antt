@@ -1,5 +1,6 @@
-pub mod Cells
-pub mod Indexes
+pub mod Alike
 pub mod Assembly
-pub mod Measure
+pub mod Cells
+pub mod Kept
 pub mod Padding
+pub mod Ranks

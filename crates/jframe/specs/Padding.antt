@@ -1,13 +1,13 @@
 -- An array's items in a greater shape of the same rank, with a filler at each index that the array lacks.
 use Rattle.std.specs.Prelude.{◌≡◌, ℕ, ◌≤◌, ◌⊎◌, List, [], ◌∷◌, length, map}
 use Rattle.std.specs.List.{range_with_len}
+use Rattle.jdata.specs.Fills.{fill_of}
+use Rattle.jdata.specs.Indexes.{index_at, at_or}
 use Rattle.jdata.specs.Noun.{shape, kind, atoms, product}
 use Rattle.jdata.specs.declared.noun.Noun.{Noun}
 use Rattle.jdata.specs.declared.noun.Kind.{Kind}
 use Rattle.jdata.specs.declared.noun.Atom.{Atom}
 use Rattle.jframe.specs.Assembly.{raised}
-use Rattle.jframe.specs.Cells.{fill_of}
-use Rattle.jframe.specs.Indexes.{index_at, at_or}
 
 -- of as many axes, and none of them longer
 abbrev pub FitsIn : List ℕ → List ℕ → Type 0

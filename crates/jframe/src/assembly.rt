@@ -1,20 +1,19 @@
 //! The assembly of results into one array.
 
-ghost use Rattle.std.specs.Prelude.{◌≡◌, ◌≤◌, ◌++◌, ◌*◌, ◌⊎◌, true, IfOk, length, map};
+ghost use Rattle.std.specs.Prelude.{◌≡◌, ◌≤◌, ◌++◌, ◌*◌, ◌⊎◌, max, true, IfOk, length, map};
 ghost use Rattle.std.specs.List.{range_with_len};
-ghost use Rattle.jdata.specs.Noun.{product, extent};
+ghost use Rattle.jdata.specs.Noun.{product, extent, greatest, atom_level};
 ghost use Rattle.jdata.specs.Trees.{noun_of, kind_of, atoms_of};
 ghost use Rattle.jdata.specs.Answers.{Answers};
-ghost use Rattle.jdata.specs.Limits.{limited as in_limits};
-ghost use Rattle.jframe.specs.Measure.{IsMeasure};
+ghost use Rattle.jdata.specs.Limits.{limited as in_limits, most_atoms, most_levels, IsShape};
+ghost use Rattle.jframe.specs.Alike.{alike};
 ghost use Rattle.jframe.specs.Assembly.{assembled, AreResults};
 ghost use Rattle.jframe.specs.Assembly as whole;
 
 use crate::common::common_axes;
-use crate::gathering::gather;
-use crate::item::filled;
+use crate::joining::join;
 use crate::kinds::common_kind;
-use jdata::{BadTree, Cell, Fault, Kind, Leaves, NoMemory, Tree, Trouble};
+use jdata::{Cell, Fault, Kind, Leaves, NoMemory, Tree, Trouble, filled, product_within};
 use jshape::Shape;
 use std::alloc::Global;
 
@@ -51,12 +50,38 @@ fn put_together(
         Ok(axes) => axes,
         Err(NoMemory) => return Err(Trouble::NoMemory),
     };
-    let count = match product_within(alloc, axes.as_slice()) {
-        Ok(count) => count,
-        Err(trouble) => return Err(trouble),
+    let Some(count) = product_within(axes.as_slice()) else {
+        return Err(Trouble::Fault(Fault::Limit));
     };
     match atoms_of_all(alloc, kind, common.as_slice(), results, count) {
         Ok(atoms) => limited(axes, atoms),
+        Err(NoMemory) => Err(Trouble::NoMemory),
+    }
+}
+
+/// Results that are all of one shape and kind in one array, from their atoms one after the other.
+pub fn assemble_alike(
+    alloc: Global,
+    frame: &Shape,
+    axes: &[u64],
+    atoms: Leaves,
+    count: u64,
+) -> Result<Tree, Trouble>
+    requires shape { IsShape axes.now }
+    requires whole { length (atoms_of atoms) ≡ count * product axes.now }
+    requires levels { greatest (map atom_level (atoms_of atoms)) ≤ most_levels }
+    requires count { count ≡ max (product frame.now) 1 }
+    ensures { Answers (assembled frame.now (alike axes.now (kind_of atoms) (atoms_of atoms) count)) result }
+{
+    let whole = match whole_axes(alloc, frame.axes(), axes) {
+        Ok(whole) => whole,
+        Err(NoMemory) => return Err(Trouble::NoMemory),
+    };
+    if frame.product() > 0 {
+        return limited(whole, atoms);
+    }
+    match filled(alloc, atoms.kind(), 0) {
+        Ok(none) => limited(whole, none),
         Err(NoMemory) => Err(Trouble::NoMemory),
     }
 }
@@ -70,16 +95,6 @@ fn whole_axes(alloc: Global, first: &[u64], second: &[u64]) -> Result<Vec<u64>, 
     Ok(axes)
 }
 
-/// The product of axes that are a shape; else its fault is Limit.
-fn product_within(alloc: Global, axes: &[u64]) -> Result<u64, Trouble>
-    ensures { IsMeasure axes.now result }
-{
-    match Shape::new(alloc, axes) {
-        Ok(shape) => Ok(shape.product()),
-        Err(trouble) => Err(trouble),
-    }
-}
-
 fn atoms_of_all(
     alloc: Global,
     kind: Kind,
@@ -90,7 +105,7 @@ fn atoms_of_all(
     requires kind { kind ≡ whole.common_kind results.items }
     requires agree { whole.kinds_agree results.items ≡ true }
     requires common { common.now ≡ whole.common_shape results.items }
-    requires bound { extent common.now ≤ 134217728 }
+    requires bound { extent common.now ≤ most_atoms }
     requires count { (count ≡ 0) ⊎ (count ≡ length results.items * product common.now) }
     ensures kind { IfOk result (λ l. kind_of l ≡ kind) }
     ensures atoms { IfOk result (λ l. atoms_of l ≡ map (whole.whole_atom results.items) (range_with_len 0 count)) }
@@ -99,9 +114,9 @@ fn atoms_of_all(
         return filled(alloc, kind, 0);
     }
     match kind {
-        Kind::Int => gather::<i64>(alloc, common, results, count),
-        Kind::Char => gather::<u8>(alloc, common, results, count),
-        Kind::Boxed => gather::<Cell>(alloc, common, results, count),
+        Kind::Int => join::<i64>(alloc, common, results, count),
+        Kind::Char => join::<u8>(alloc, common, results, count),
+        Kind::Boxed => join::<Cell>(alloc, common, results, count),
     }
 }
 
@@ -110,9 +125,8 @@ fn limited(axes: Vec<u64>, atoms: Leaves) -> Result<Tree, Trouble>
     requires { length (atoms_of atoms) ≡ product axes.items }
     ensures { Answers (in_limits (noun_of axes.items atoms)) result }
 {
-    match Tree::new(axes, atoms) {
+    match Tree::limited(axes, atoms) {
         Ok(array) => Ok(array),
-        Err(BadTree::Limit) => Err(Trouble::Fault(Fault::Limit)),
-        Err(BadTree::Length { .. }) => unreachable!(),
+        Err(fault) => Err(Trouble::Fault(fault)),
     }
 }

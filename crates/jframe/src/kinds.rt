@@ -3,6 +3,7 @@
 ghost use Rattle.std.specs.Prelude.{◌≡◌, true, false, MatchOption};
 ghost use Rattle.std.specs.List.{filter, list_all};
 ghost use Rattle.jdata.specs.Noun as noun;
+ghost use Rattle.jdata.specs.Kinds as kinds;
 ghost use Rattle.jframe.specs.Assembly as whole;
 
 use jdata::{Kind, Tree};
@@ -36,7 +37,7 @@ fn leading_kind(results: &[Tree]) -> Kind
 
 /// Whether all that have atoms are of the kind.
 fn are_of_kind(results: &[Tree], kind: Kind) -> bool
-    ensures { result ≡ list_all (λ v. whole.same_kind (noun.kind v) kind) (filter whole.has_atoms results.now) }
+    ensures { result ≡ list_all (λ v. kinds.same_kind (noun.kind v) kind) (filter whole.has_atoms results.now) }
 {
     for tree in results {
         if has_atoms(tree) && !same_kind(tree.kind(), kind) {
@@ -49,11 +50,11 @@ fn are_of_kind(results: &[Tree], kind: Kind) -> bool
 fn has_atoms(tree: &Tree) -> bool
     ensures { result ≡ whole.has_atoms tree.now }
 {
-    tree.items().len() > 0
+    tree.leaf().len() > 0
 }
 
 fn same_kind(left: Kind, right: Kind) -> bool
-    ensures { result ≡ whole.same_kind left right }
+    ensures { result ≡ kinds.same_kind left right }
 {
     match (left, right) {
         (Kind::Int, Kind::Int) => true,

@@ -3,16 +3,20 @@
 
 mod assembly;
 mod common;
-mod gathering;
-mod item;
+mod joining;
 mod kinds;
 mod padding;
+mod pairs;
 mod parted;
 mod parting;
-mod ranges;
+mod ranks;
+mod results;
 #[cfg(test)]
 mod tests;
 
 pub use assembly::assemble;
+pub use pairs::{WholeDyad, at_ranks};
 pub use parted::Cells;
 pub use parting::{cells, fill_cell};
+pub use ranks::{WholeMonad, at_rank};
+pub use results::Results;

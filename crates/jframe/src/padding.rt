@@ -1,11 +1,11 @@
 //! An array's atoms in a greater shape, with fills in the places that it lacks.
 
 ghost use Rattle.std.specs.Prelude.{◌≡◌, ◌*◌, ◌≤◌, ◌∷◌, ◌++◌, OnOk, length, take, drop};
+ghost use Rattle.jdata.specs.Limits.{most_atoms};
 ghost use Rattle.jdata.specs.Noun.{product, extent};
 ghost use Rattle.jframe.specs.Padding.{FitsIn, spread};
 
-use crate::item::{Item, push_fills};
-use jdata::NoMemory;
+use jdata::{Item, NoMemory, product_of, push_fills};
 use std::alloc::Global;
 use std::collections::VecDeque;
 
@@ -20,7 +20,7 @@ pub fn pad<T: Item>(
     into: &mut Vec<T>,
 ) -> Result<(), NoMemory>
     requires fits { FitsIn part.now whole.now }
-    requires bound { extent whole.now ≤ 134217728 }
+    requires bound { extent whole.now ≤ most_atoms }
     requires enough { product part.now ≤ length from.old.items }
     ensures into { OnOk result (into.new.items ≡ into.old.items ++ spread T.blank whole.now part.now from.old.items) }
     ensures from { OnOk result (from.new.items ≡ drop (product part.now) from.old.items) }
@@ -47,7 +47,7 @@ fn pad_rows<T: Item>(
     into: &mut Vec<T>,
 ) -> Result<(), NoMemory>
     requires fits { FitsIn part.now whole.now }
-    requires bound { extent whole.now ≤ 134217728 }
+    requires bound { extent whole.now ≤ most_atoms }
     requires enough { count * product part.now ≤ length from.old.items }
     ensures into { OnOk result (into.new.items ≡ into.old.items ++ spread T.blank (count ∷ whole.now) (count ∷ part.now) from.old.items) }
     ensures from { OnOk result (from.new.items ≡ drop (count * product part.now) from.old.items) }
@@ -80,15 +80,4 @@ fn move_items<T: Drop>(
         }
     }
     Ok(())
-}
-
-fn product_of(axes: &[u64]) -> u64
-    requires { extent axes.now ≤ 134217728 }
-    ensures { result ≡ product axes.now }
-{
-    let mut product = 1;
-    for &axis in axes {
-        product *= axis;
-    }
-    product
 }

@@ -4,31 +4,31 @@ ghost use Rattle.std.specs.Prelude.{◌≡◌, ◌++◌, IfOk};
 ghost use Rattle.jdata.specs.Noun.{shape};
 ghost use Rattle.jframe.specs.Cells.{parted, filled_cell, fills};
 
-use crate::item::filled;
 use crate::parted::Cells;
-use jdata::{Kind, NoMemory, Tree, Trouble};
+use jarray::{Array, Room};
+use jdata::{Kind, NoMemory, Tree, Trouble, filled};
 use jshape::Shape;
 use std::alloc::Global;
 
 /// The cells of an array at a rank: a negative rank counts axes of the frame, and without a rank
 /// the whole array is one cell.
-pub fn cells(alloc: Global, y: &Tree, rank: Option<i64>) -> Result<Cells, NoMemory>
-    ensures parted { IfOk result (λ cells. cells ≡ parted rank (shape y.now)) }
-    ensures whole { IfOk result (λ cells. shape y.now ≡ cells.frame ++ cells.cell) }
+pub fn cells(alloc: Global, room: &Room, y: &Array, rank: Option<i64>) -> Result<Cells, NoMemory>
+    ensures parted { IfOk result (λ cells. cells ≡ parted rank (shape y.now.noun)) }
+    ensures whole { IfOk result (λ cells. shape y.now.noun ≡ cells.frame ++ cells.cell) }
 {
-    let shape = shape_of(alloc, y)?;
+    let shape = shape_of(alloc, room, y)?;
     let frame = shape.frame(alloc, rank)?;
     let cell = shape.cell(alloc, rank)?;
     Ok(Cells::of(frame, cell))
 }
 
 /// A cell of fills: of the shape of the cells of an array at a rank, and of its kind.
-pub fn fill_cell(alloc: Global, y: &Tree, rank: Option<i64>) -> Result<Tree, NoMemory>
-    ensures { IfOk result (λ t. t ≡ filled_cell rank y.now) }
+pub fn fill_cell(alloc: Global, room: &Room, y: &Array, rank: Option<i64>) -> Result<Tree, NoMemory>
+    ensures { IfOk result (λ t. t ≡ filled_cell rank y.now.noun) }
 {
-    let shape = shape_of(alloc, y)?;
+    let shape = shape_of(alloc, room, y)?;
     let cell = shape.cell(alloc, rank)?;
-    fills(alloc, &cell, y.kind())
+    fills(alloc, &cell, y.kind(room))
 }
 
 /// An array of fills.
@@ -43,10 +43,10 @@ fn fills(alloc: Global, shape: &Shape, kind: Kind) -> Result<Tree, NoMemory>
     }
 }
 
-fn shape_of(alloc: Global, y: &Tree) -> Result<Shape, NoMemory>
-    ensures { IfOk result (λ s. s ≡ shape y.now) }
+fn shape_of(alloc: Global, room: &Room, y: &Array) -> Result<Shape, NoMemory>
+    ensures { IfOk result (λ s. s ≡ shape y.now.noun) }
 {
-    match Shape::new(alloc, y.shape()) {
+    match Shape::new(alloc, y.shape(room)) {
         Ok(shape) => Ok(shape),
         Err(Trouble::NoMemory) => Err(NoMemory),
         Err(Trouble::Fault(_)) => unreachable!(),

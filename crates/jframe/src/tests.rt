@@ -1,4 +1,8 @@
-use crate::{assemble, cells, fill_cell};
+ghost use Rattle.std.specs.Prelude.{Ok, Err};
+ghost use Rattle.jdata.specs.declared.fault.Fault.TheVariants as cause;
+
+use crate::{Results, WholeDyad, WholeMonad, assemble, at_rank, at_ranks, cells, fill_cell};
+use jarray::{Array, Room};
 use jdata::{Bytes, Cell, CellList, Fault, IntList, Leaves, Tree, Trouble};
 use jshape::Shape;
 use std::alloc::Global;
@@ -227,15 +231,18 @@ fn boxes_are_filled(rt: HostRuntime) -> Result<(), Fail> {
 fn cell_of(
     rt: &impl Abort,
     alloc: Global,
-    y: &Tree,
+    y: Tree,
     rank: Option<i64>,
     frame: &[u64],
     at: u64,
 ) -> Result<Tree, Fail> {
-    let parted = cells(alloc, y, rank)?;
+    let mut room = Room::none();
+    let y = Array::of(y);
+    let parted = cells(alloc, &room, &y, rank)?;
     assert!(rt; parted.frame().axes() == frame);
     assert!(rt; at < parted.count());
-    Ok(parted.get(alloc, y, at)?)
+    let cell = parted.get(alloc, &room, &y, at)?;
+    Ok(cell.into_tree(alloc, &mut room)?)
 }
 
 fn is_cell(
@@ -247,7 +254,7 @@ fn is_cell(
     expected: Given<'_>,
 ) -> Result<bool, Fail> {
     let y = array(alloc, y)?;
-    let cell = cell_of(rt, alloc, &y, rank, frame, at)?;
+    let cell = cell_of(rt, alloc, y, rank, frame, at)?;
     is_array(alloc, &cell, expected)
 }
 
@@ -278,7 +285,7 @@ fn cells_are_cut(rt: HostRuntime) -> Result<(), Fail> {
 fn cells_of_boxes_are_boxes(rt: HostRuntime) -> Result<(), Fail> {
     let contents: [Given<'_>; 2] = [(&[], Ints(&[5])), (&[2], Ints(&[6, 7]))];
     let y = boxes(rt.alloc(), &[2], &contents)?;
-    let cell = cell_of(&rt, rt.alloc(), &y, Some(0), &[2], 1)?;
+    let cell = cell_of(&rt, rt.alloc(), y, Some(0), &[2], 1)?;
     let expected = boxes(rt.alloc(), &[], &contents[1..])?;
     assert!(rt; is_equal(&cell, &expected));
     Ok(())
@@ -286,7 +293,7 @@ fn cells_of_boxes_are_boxes(rt: HostRuntime) -> Result<(), Fail> {
 
 fn is_fill_cell(alloc: Global, y: Given<'_>, rank: i64, expected: Given<'_>) -> Result<bool, Fail> {
     let y = array(alloc, y)?;
-    let cell = fill_cell(alloc, &y, Some(rank))?;
+    let cell = fill_cell(alloc, &Room::none(), &Array::of(y), Some(rank))?;
     is_array(alloc, &cell, expected)
 }
 
@@ -303,8 +310,131 @@ fn cells_of_fills(rt: HostRuntime) -> Result<(), Fail> {
 #[test]
 fn a_fill_of_boxes(rt: HostRuntime) -> Result<(), Fail> {
     let none = boxes(rt.alloc(), &[0], &[])?;
-    let cell = fill_cell(rt.alloc(), &none, Some(0))?;
+    let cell = fill_cell(rt.alloc(), &Room::none(), &Array::of(none), Some(0))?;
     let expected = boxes(rt.alloc(), &[], &[(&[0], Ints(&[]))])?;
     assert!(rt; is_equal(&cell, &expected));
+    Ok(())
+}
+
+fn number_results(alloc: Global) -> Result<Tree, Fail> {
+    let mut room = Room::none();
+    let mut results = Results::new(alloc);
+    results.push(&mut room, Array::atom(7))?;
+    results.push(&mut room, Array::of(array(alloc, (&[], Ints(&[8])))?))?;
+    results.push(&mut room, Array::atom(9))?;
+    Ok(results.finish(&Shape::new(alloc, &[3])?)?)
+}
+
+fn list_results(alloc: Global) -> Result<Tree, Fail> {
+    let mut room = Room::none();
+    let mut results = Results::new(alloc);
+    results.push(&mut room, Array::of(array(alloc, (&[2], Ints(&[1, 2])))?))?;
+    results.push(&mut room, Array::of(array(alloc, (&[2], Ints(&[3, 4])))?))?;
+    Ok(results.finish(&Shape::new(alloc, &[2])?)?)
+}
+
+fn mixed_results(alloc: Global) -> Result<Tree, Fail> {
+    let mut room = Room::none();
+    let mut results = Results::new(alloc);
+    results.push(&mut room, Array::atom(7))?;
+    results.push(&mut room, Array::of(array(alloc, (&[2], Ints(&[1, 2])))?))?;
+    results.push(&mut room, Array::atom(9))?;
+    Ok(results.finish(&Shape::new(alloc, &[3])?)?)
+}
+
+fn no_results(alloc: Global) -> Result<Tree, Fail> {
+    let mut room = Room::none();
+    let mut results = Results::new(alloc);
+    results.push(&mut room, Array::of(array(alloc, (&[2], Text(b"ab")))?))?;
+    Ok(results.finish(&Shape::new(alloc, &[0])?)?)
+}
+
+#[test]
+fn results_are_put_together(rt: HostRuntime) -> Result<(), Fail> {
+    let alloc = rt.alloc();
+    assert!(rt; is_array(alloc, &number_results(alloc)?, (&[3], Ints(&[7, 8, 9])))?);
+    assert!(rt; is_array(alloc, &list_results(alloc)?, (&[2, 2], Ints(&[1, 2, 3, 4])))?);
+    assert!(rt;
+        is_array(
+            alloc,
+            &mixed_results(alloc)?,
+            (&[3, 2], Ints(&[7, 0, 1, 2, 9, 0]))
+        )?
+    );
+    assert!(rt; is_array(alloc, &no_results(alloc)?, (&[0, 2], Text(b"")))?);
+    Ok(())
+}
+
+/// The argument itself.
+struct Same;
+
+impl WholeMonad for Same {
+    ghost meant = { λ y. Ok y };
+
+    fn apply(_alloc: Global, _room: &mut Room, y: Array) -> Result<Array, Trouble> {
+        Ok(y)
+    }
+}
+
+/// No argument is taken.
+struct Refused;
+
+impl WholeMonad for Refused {
+    ghost meant = { λ y. Err cause.Domain };
+
+    fn apply(_alloc: Global, _room: &mut Room, _y: Array) -> Result<Array, Trouble> {
+        Err(Trouble::Fault(Fault::Domain))
+    }
+}
+
+#[test]
+fn a_verb_is_applied_at_its_rank(rt: HostRuntime) -> Result<(), Fail> {
+    let alloc = rt.alloc();
+    let mut room = Room::none();
+    let six: Given<'_> = (&[2, 3], Ints(&[0, 1, 2, 3, 4, 5]));
+    for rank in [Some(0), Some(1), Some(-1), None] {
+        let y = Array::of(array(alloc, six)?);
+        let same = at_rank::<Same>(alloc, &mut room, rank, y)?;
+        assert!(rt; is_array(alloc, &same.into_tree(alloc, &mut room)?, six)?);
+    }
+    let y = Array::of(array(alloc, six)?);
+    let refused = at_rank::<Refused>(alloc, &mut room, Some(1), y).err();
+    assert_eq!(rt; refused, Some(Trouble::Fault(Fault::Domain)));
+    let none = Array::of(array(alloc, (&[0, 3], Text(b"")))?);
+    let shown = at_rank::<Refused>(alloc, &mut room, Some(1), none)?;
+    assert!(rt;
+        is_array(
+            alloc,
+            &shown.into_tree(alloc, &mut room)?,
+            (&[0], Ints(&[]))
+        )?
+    );
+    Ok(())
+}
+
+/// The left argument.
+struct Left;
+
+impl WholeDyad for Left {
+    ghost meant = { λ x y. Ok x };
+
+    fn apply(_alloc: Global, _room: &mut Room, x: Array, _y: Array) -> Result<Array, Trouble> {
+        Ok(x)
+    }
+}
+
+#[test]
+fn a_verb_is_applied_to_pairs_of_cells(rt: HostRuntime) -> Result<(), Fail> {
+    let alloc = rt.alloc();
+    let mut room = Room::none();
+    let two = Array::of(array(alloc, (&[2], Ints(&[7, 8])))?);
+    let six = Array::of(array(alloc, (&[2, 3], Text(b"abcdef")))?);
+    let left = at_ranks::<Left>(alloc, &mut room, Some(0), Some(0), two, six)?;
+    let expected: Given<'_> = (&[2, 3], Ints(&[7, 7, 7, 8, 8, 8]));
+    assert!(rt; is_array(alloc, &left.into_tree(alloc, &mut room)?, expected)?);
+    let two = Array::of(array(alloc, (&[2], Ints(&[7, 8])))?);
+    let three = Array::of(array(alloc, (&[3], Ints(&[1, 2, 3])))?);
+    let refused = at_ranks::<Left>(alloc, &mut room, Some(0), Some(0), two, three).err();
+    assert_eq!(rt; refused, Some(Trouble::Fault(Fault::Length)));
     Ok(())
 }

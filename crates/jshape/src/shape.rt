@@ -1,19 +1,13 @@
 //! Shapes.
 
-ghost use Rattle.std.specs.Prelude.{◌≡◌, ◌↔◌, ◌⊎◌, ◌<◌, ◌≤◌, length, Err, IfOk, IfErr, IsOk, IsTrue};
+ghost use Rattle.std.specs.Prelude.{◌≡◌, ◌↔◌, ◌⊎◌, ◌<◌, ◌≤◌, length, Err, IfOk, IfErr, IsOk};
 ghost use Rattle.jdata.specs.Noun.{product, extent};
 
 use crate::rank::frame_length;
-use jdata::{Fault, NoMemory, Trouble};
+use jdata::{Fault, MAX_RANK, NoMemory, Trouble, product_of, product_within};
 use smallvec::SmallVec;
 use std::alloc::Global;
 use std::marker::Model;
-
-/// The most axes of a shape.
-const MAX_RANK: usize = 63;
-
-/// The greatest product of the axes of a shape that aren't 0.
-const MAX_EXTENT: u64 = 134_217_728;
 
 /// The lengths of an array along its axes, the first axis first. Up to four axes take no memory.
 #[derive(Debug, Drop)]
@@ -23,7 +17,7 @@ pub struct Shape {
 
 impl Model for Shape {
     ghost use Rattle.std.specs.Prelude.{List, ℕ};
-    ghost use Rattle.jshape.specs.Shapes.{IsShape};
+    ghost use Rattle.jdata.specs.Limits.{IsShape};
 
     ghost Value = { List ℕ };
 
@@ -35,18 +29,18 @@ impl Model for Shape {
 impl Shape {
     ghost use Rattle.jdata.specs.declared.fault.Trouble.TheVariants as trouble;
     ghost use Rattle.jdata.specs.declared.fault.Fault.TheVariants as cause;
-    ghost use Rattle.jshape.specs.Shapes.{IsShape};
+    ghost use Rattle.jdata.specs.Limits.{IsShape, most_axes, most_atoms};
     ghost use Rattle.jshape.specs.Frames.{frame_of, cell_of};
 
     /// The shape of these axes. Its only fault is Limit: more than 63 axes, or a product of the
     /// axes that aren't 0 above 2^27.
     pub fn new(alloc: Global, axes: &[u64]) -> Result<Shape, Trouble>
         ensures ok { IfOk result (λ shape. shape ≡ axes.now) }
-        ensures limit { (result ≡ Err (trouble.Fault cause.Limit)) ↔ ((63 < length axes.now) ⊎ (134217728 < extent axes.now)) }
+        ensures limit { (result ≡ Err (trouble.Fault cause.Limit)) ↔ ((most_axes < length axes.now) ⊎ (most_atoms < extent axes.now)) }
         ensures only { IfErr result (λ why. (why ≡ trouble.Fault cause.Limit) ⊎ (why ≡ trouble.NoMemory)) }
         ensures inline { length axes.now ≤ 4 → IsShape axes.now → IsOk result }
     {
-        if axes.len() > MAX_RANK || !is_within(axes) {
+        if axes.len() > MAX_RANK || product_within(axes).is_none() {
             return Err(Trouble::Fault(Fault::Limit));
         }
         match Shape::of(alloc, axes) {
@@ -99,30 +93,4 @@ impl Shape {
         let axes = self.axes();
         Shape::of(alloc, &axes[frame_length(rank, axes.len())..])
     }
-}
-
-/// Whether the product of the axes that aren't 0 is within the limit.
-fn is_within(axes: &[u64]) -> bool
-    ensures { IsTrue result ↔ (extent axes.now ≤ 134217728) }
-{
-    let mut extent = 1;
-    for &axis in axes {
-        let length = axis.max(1);
-        if length > MAX_EXTENT / extent {
-            return false;
-        }
-        extent *= length;
-    }
-    true
-}
-
-fn product_of(axes: &[u64]) -> u64
-    requires { extent axes.now ≤ 134217728 }
-    ensures { result ≡ product axes.now }
-{
-    let mut product = 1;
-    for &axis in axes {
-        product *= axis;
-    }
-    product
 }

@@ -1,4 +1,5 @@
 ghost use Rattle.std.specs.Prelude.{◌≡◌, ◌<◌, ◌≤◌, None, IsSome, IfSome, IfOk, IfErr, length, map, take, slice_get};
+ghost use Rattle.jdata.specs.Limits.{most_levels};
 ghost use Rattle.jdata.specs.Noun.{level, atom_level, greatest};
 ghost use Rattle.jdata.specs.Pyxes.{first_pyx, atom_pyx, first_some, opened, opened_atom, opened_atoms};
 ghost use Rattle.jdata.specs.Trees.{atom_of};
@@ -53,8 +54,8 @@ impl Tree {
     #[cycle(opening)]
     pub fn open_first(self, value: Tree) -> Result<Tree, Fault>
         requires { IsSome (first_pyx self) }
-        ensures ok { IfOk result (λ t. (t ≡ opened value self) × (level t ≤ 64)) }
-        ensures limit { IfErr result (λ f. (f ≡ Fault.Limit) × (64 < level (opened value self))) }
+        ensures ok { IfOk result (λ t. (t ≡ opened value self) × (level t ≤ most_levels)) }
+        ensures limit { IfErr result (λ f. (f ≡ Fault.Limit) × (most_levels < level (opened value self))) }
     {
         let Tree {
             axes,
@@ -85,7 +86,7 @@ impl Cell {
     fn open_first(self, value: Tree) -> Result<Cell, Fault>
         requires { IsSome (atom_pyx (atom_of self)) }
         ensures ok { IfOk result (λ c. atom_of c ≡ opened_atom value (atom_of self)) }
-        ensures limit { IfErr result (λ f. (f ≡ Fault.Limit) × (64 < atom_level (opened_atom value (atom_of self)))) }
+        ensures limit { IfErr result (λ f. (f ≡ Fault.Limit) × (most_levels < atom_level (opened_atom value (atom_of self)))) }
     {
         match self {
             Cell::Boxed(content) => Ok(Cell::Boxed(content.open_first(value)?)),
@@ -98,7 +99,7 @@ impl Cell {
 fn open_cells(mut cells: CellList, value: Tree) -> Result<CellList, Fault>
     requires { IsSome (first_some (map atom_pyx (map atom_of cells))) }
     ensures ok { IfOk result (λ l. map atom_of l ≡ opened_atoms value (map atom_of cells)) }
-    ensures limit { IfErr result (λ f. (f ≡ Fault.Limit) × (64 < greatest (map atom_level (opened_atoms value (map atom_of cells))))) }
+    ensures limit { IfErr result (λ f. (f ≡ Fault.Limit) × (most_levels < greatest (map atom_level (opened_atoms value (map atom_of cells))))) }
 {
     let at = place_of_pyx(cells.items());
     let nothing = Cell::Pyx(PyxId {

@@ -6,6 +6,7 @@ use Rattle.std.proofs.Math.Nat.{zero-mul}
 use Rattle.std.proofs.lemmas.Slice.Eq.{slice_eq-Decides}
 use Rattle.std.proofs.lemmas.Bool.Decides.{Decides-eqb}
 use Rattle.jdata.specs.Noun.{product}
+use Rattle.jdata.specs.Limits.{most_atoms}
 use Rattle.jframe.specs.Padding.{spread}
 use Rattle.jframe.proofs.Spreading.{rest_within, fills_fit, atoms_alone, fits_long, one_item, one_axis, spread_none, spread_more, spread_same}
 use Rattle.jframe.proofs.padding.+padding.Goals as goal
@@ -29,11 +30,11 @@ pad-returns-then-is_empty-clause-from g t c =
     on_ok_weaker c.move_items.result (λ e. e ∙ h.1) c.move_items.ensures.from
 
 pub pad-product_of-requires : goal.pad-product_of-requires
-pad-product_of-requires g t c = rest_within c.args.whole.now 134217728 c.requires.bound
+pad-product_of-requires g t c = rest_within c.args.whole.now most_atoms c.requires.bound
 
 pub pad-overflow_mul-fills : goal.pad-overflow_mul-fills
 pad-overflow_mul-fills g t c =
-    let h = fills_fit c.args.whole.now 134217728 (slice_index_or c.args.part.now 0 0) c.product_of.result c.product_of.ensures c.requires.bound in
+    let h = fills_fit c.args.whole.now most_atoms (slice_index_or c.args.part.now 0 0) c.product_of.result c.product_of.ensures c.requires.bound in
     omega (arith, h)
 
 pub pad-returns-in-Ok-clause-into : goal.pad-returns-in-Ok-clause-into

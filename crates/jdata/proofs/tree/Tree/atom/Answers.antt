@@ -10,7 +10,7 @@ use Rattle.jdata.specs.Limits.{IsArray}
 kept : (axes : List ℕ) (ns : List ℤ) (n : ℤ) → axes ≡ [] → ns ≡ n ∷ [] → IsKept (record { axes = axes; leaves = leaf.Int ns; depth = 0 })
 kept axes ns n e f =
     let flat : level (int_atom n) ≡ 0 = level_is (int_atom n) ∙ level_of_ints (n ∷ []) in
-    let array : IsArray (int_atom n) = record { whole = refl; rank = omega arith; extent_at_most = omega arith; level_at_most = omega (arith, flat) } in
+    let array : IsArray (int_atom n) = record { whole = refl; within = record { rank = omega arith; extent_at_most = omega arith }; level_at_most = omega (arith, flat) } in
     rw (e, f) (record { array = array; depth_is = sym flat })
 
 pub invariant_of-result : goal.invariant_of-result

@@ -1,6 +1,10 @@
-use Rattle.std.proofs.Common.{ap, ◌∙◌, take, drop, ◌≡◌, ◌*◌, length, arith}
-use Rattle.jdata.specs.Noun.{product, extent}
-use Rattle.jframe.proofs.Arrays.{cell_ends, few_atoms, cell_made, is_value, no_error}
+use Rattle.std.proofs.Common.{ap, ◌∙◌, ◌≡◌, length, map, arith, []}
+use Rattle.std.proofs.lemmas.List.{nil_from_length}
+use Rattle.jdata.specs.Noun.{product, greatest, atom_level}
+use Rattle.jarray.specs.Placed.{own}
+use Rattle.jdata.proofs.Arrays.{few_atoms}
+use Rattle.jdata.proofs.Levels.{level_is}
+use Rattle.jframe.proofs.Arrays.{cell_ends, cell_of_range, cell_of_integer}
 use Rattle.jframe.proofs.parted.Cells.get.Goals as goal
 
 pub overflow_mul-at : goal.overflow_mul-at
@@ -10,34 +14,26 @@ overflow_mul-at c =
     let few = few_atoms _ c.shape-shape.ensures.array in
     omega (arith, h, few)
 
-pub copy_range-requires : goal.copy_range-requires
-copy_range-requires c =
+pub cell_of-requires-clause-within : goal.cell_of-requires-clause-within
+cell_of-requires-clause-within c =
     let count = c.product-count.ensures ∙ ap (λ x. product x.cell) c.self.view_is in
     let h = cell_ends _ _ _ _ _ c.requires.within c.requires.parted c.shape-shape.ensures.array count in
-    omega (arith, h, ap length c.items.ensures.atoms)
+    omega (arith, h, ap length c.leaf.ensures.atoms)
 
-pub unreachable-requires : goal.unreachable-requires
-unreachable-requires c =
-    let count = c.product-count.ensures ∙ ap (λ x. product x.cell) c.self.view_is in
-    let ends = cell_ends _ _ _ _ _ c.requires.within c.requires.parted c.shape-shape.ensures.array count in
-    let is : c.axes-cell.result.now ≡ c.args.self.now.cell = c.axes-cell.ensures.axes ∙ ap (λ x. x.cell) c.self.view_is in
-    let rank = ap length is in
-    let ext = ap extent is in
-    let made = cell_made _ c.args.y.now c.args.at c.product-count.result c.in_ok-axes.axes.items c.in_ok-atoms.atoms count ends
-    (omega (arith, rank, c.axes-cell.ensures.shape.rank)) (omega (arith, ext, c.axes-cell.ensures.shape.extent_at_most)) c.shape-shape.ensures.array
-    (c.in_ok-axes.ensures.items ∙ is) (c.in_ok-atoms.ensures.kind ∙ c.items.ensures.kind)
-    (c.in_ok-atoms.ensures.atoms ∙ ap (λ l. take c.product-count.result (drop (c.args.at * c.product-count.result) l)) c.items.ensures.atoms) in
-    no_error _ _ _ _ c.new.ensures made c.in-Err.is
+pub cell_of-requires-clause-levels : goal.cell_of-requires-clause-levels
+cell_of-requires-clause-levels c =
+    let all = ap (λ l. greatest (map atom_level l)) c.leaf.ensures.atoms in
+    omega (arith, all, level_is c.args.y.now.noun, c.shape-shape.ensures.array.level_at_most)
 
-pub returns : goal.returns
-returns c =
+pub returns-in-empty-Int : goal.returns-in-empty-Int
+returns-in-empty-Int c =
+    let is = c.axes.ensures.axes ∙ ap (λ x. x.cell) c.self.view_is in
+    let none : c.args.self.now.cell ≡ [] = nil_from_length _ (omega (arith, ap length is, c.in-empty-Int.len_below)) in
+    c.number_at.ensures ∙ ap own (cell_of_integer c.args.self.now.cell c.args.y.now.noun c.args.at c.in-empty-Int.numbers.now none c.in-empty-Int.ensures.kind c.in-empty-Int.ensures.atoms)
+
+pub returns-in-Ok : goal.returns-in-Ok
+returns-in-Ok c =
     let count = c.product-count.ensures ∙ ap (λ x. product x.cell) c.self.view_is in
-    let ends = cell_ends _ _ _ _ _ c.requires.within c.requires.parted c.shape-shape.ensures.array count in
-    let is : c.axes-cell.result.now ≡ c.args.self.now.cell = c.axes-cell.ensures.axes ∙ ap (λ x. x.cell) c.self.view_is in
-    let rank = ap length is in
-    let ext = ap extent is in
-    let made = cell_made _ c.args.y.now c.args.at c.product-count.result c.in_ok-axes.axes.items c.in_ok-atoms.atoms count ends
-    (omega (arith, rank, c.axes-cell.ensures.shape.rank)) (omega (arith, ext, c.axes-cell.ensures.shape.extent_at_most)) c.shape-shape.ensures.array
-    (c.in_ok-axes.ensures.items ∙ is) (c.in_ok-atoms.ensures.kind ∙ c.items.ensures.kind)
-    (c.in_ok-atoms.ensures.atoms ∙ ap (λ l. take c.product-count.result (drop (c.args.at * c.product-count.result) l)) c.items.ensures.atoms) in
-    is_value _ _ _ _ c.new.ensures made c.in-Ok.is
+    let h = cell_ends _ _ _ _ _ c.requires.within c.requires.parted c.shape-shape.ensures.array count in
+    let is = c.axes.ensures.axes ∙ ap (λ x. x.cell) c.self.view_is in
+    c.of.ensures ∙ ap own (c.in-Ok.ensures ∙ cell_of_range c.args.self.now.cell c.args.y.now.noun c.args.at c.product-count.result _ _ _ count h is c.leaf.ensures.kind c.leaf.ensures.atoms)

@@ -1,4 +1,4 @@
-use Rattle.jshape.proofs.Extents.{cell_is_shape}
+use Rattle.jdata.proofs.Extents.{cell_is_shape}
 use Rattle.jshape.proofs.shape.Shape.cell.Goals as goal
 
 pub of-requires : goal.of-requires

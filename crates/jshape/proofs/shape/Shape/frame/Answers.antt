@@ -1,4 +1,4 @@
-use Rattle.jshape.proofs.Extents.{frame_is_shape}
+use Rattle.jdata.proofs.Extents.{frame_is_shape}
 use Rattle.jshape.proofs.shape.Shape.frame.Goals as goal
 
 pub of-requires : goal.of-requires

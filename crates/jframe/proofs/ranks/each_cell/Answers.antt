@@ -1,0 +1,31 @@
+use Rattle.std.proofs.Common.{arith, ap, sym, subst, ◌∙◌, ◌≡◌, ◌≤◌, ℕ, Ok, Err, Result}
+use Rattle.jdata.specs.Answers.{Answers}
+use Rattle.jdata.specs.Limits.{most_atoms, IsShape}
+use Rattle.jdata.specs.Noun.{product}
+use Rattle.jdata.specs.declared.fault.Fault.{Fault}
+use Rattle.jdata.specs.declared.noun.Noun.{Noun}
+use Rattle.jdata.proofs.Extents.{product_at_most}
+use Rattle.jarray.specs.Placed.{Placed}
+use Rattle.jframe.specs.Cells.{nth_cell}
+use Rattle.jframe.proofs.Applying.{answers_until}
+use Rattle.jframe.proofs.Firsts.{places_long, places_more}
+use Rattle.jframe.proofs.ranks.each_cell.Goals as goal
+
+pub returns-in-Err-apply : goal.returns-in-Err-apply
+returns-in-Err-apply g c =
+    let each : ℕ → Result Noun Fault = λ i. g.V.WholeMonad.meant (nth_cell c.args.cells.now.cell c.args.y.now.noun i) in
+    let here = subst (λ (a : Placed). Answers {Value = Noun} (g.V.WholeMonad.meant a.noun) (Err c.in-Err-apply.trouble)) c.in-Ok.ensures c.in-Err-apply.ensures in
+    answers_until each c.loop-at.at (product c.args.cells.now.frame) c.loop-at.results c.in-Err-apply.trouble c.loop-at.invariant (omega (arith, c.loop-at-test.true, c.count-at-end.ensures)) here
+
+pub push-requires : goal.push-requires
+push-requires g c =
+    let each : ℕ → Result Noun Fault = λ i. g.V.WholeMonad.meant (nth_cell c.args.cells.now.cell c.args.y.now.noun i) in
+    let within = subst IsShape (c.axes-axes.ensures.axes ∙ c.frame.ensures) c.axes-axes.ensures.shape in
+    let few : product c.args.cells.now.frame ≤ most_atoms = omega (arith, product_at_most c.args.cells.now.frame, within.extent_at_most) in
+    record { few = omega (arith, places_long each c.loop-at.at c.loop-at.results c.loop-at.invariant, c.loop-at-test.true, c.count-at-end.ensures, few) }
+
+pub loop-at-preserved : goal.loop-at-preserved
+loop-at-preserved g c =
+    let each : ℕ → Result Noun Fault = λ i. g.V.WholeMonad.meant (nth_cell c.args.cells.now.cell c.args.y.now.noun i) in
+    let here = ap (λ (a : Placed). g.V.WholeMonad.meant a.noun) (sym c.in-Ok.ensures) ∙ c.in-Ok-apply.ensures in
+    places_more each c.loop-at.at c.loop-at.results c.in-Ok-apply.value.noun c.loop-at.invariant here ∙ ap Ok (sym c.in-Ok-push.ensures.ok)
