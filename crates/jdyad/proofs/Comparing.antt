@@ -1,5 +1,6 @@
 -- Atoms that are compared, and what `=` and `~:` give of them.
 use Rattle.std.specs.Prelude.{ℕ, zero, suc, ℤ, pos, ◌/◌, ◌+◌, ◌<◌, Bool, true, false, not, ◌≡◌, Result, Ok, List, [], ◌∷◌, map}
+use Rattle.jscalar.specs.Places.{by_place}
 use Rattle.std.proofs.Common.{arith, sym, ◌∙◌, ap, refl, get_or, length, ◌*◌, subst}
 use Rattle.std.proofs.lemmas.List.{get_or-map}
 use Rattle.std.proofs.Math.Nat.{div-lt_iff_lt-mul}
@@ -15,10 +16,10 @@ use Rattle.jdata.proofs.Matching.{plain_int, plain_char, plain_box, plain_pyx}
 use Rattle.jscalar.specs.Truths.{truth}
 use Rattle.jarray.specs.Matches.{equal_atoms}
 use Rattle.jarray.proofs.Equality.{equal_decides}
-use Rattle.jdyad.specs.Atoms.{is_comparison, compared, by_place}
-use Rattle.jarray.specs.Arrays.{atoms_seen, kind_seen}
-use Rattle.jarray.specs.declared.array.Items.{Items}
-use Rattle.jarray.specs.declared.array.Items.TheVariants as items
+use Rattle.jdyad.specs.Atoms.{is_comparison, compared}
+use Rattle.jdata.specs.Leaf.{atoms_in, kind_in}
+use Rattle.jdata.specs.declared.leaf.Leaf.{Leaf}
+use Rattle.jdata.specs.declared.leaf.Leaf.TheVariants as items
 use Rattle.jdata.specs.declared.noun.Kind.{Kind}
 use Rattle.jdata.specs.declared.noun.Kind.TheVariants as sort
 use Rattle.jdata.specs.declared.noun.Noun.{Noun}
@@ -115,29 +116,29 @@ seen_of f k each (x ∷ xs) zero d h = each x
 seen_of f k each (x ∷ xs) (suc j) d h = seen_of f k each xs j d (omega arith)
 
 -- the kind of each atom that is seen
-pub seen_kind : (a : Items) (j : ℕ) (d : Atom) → j < length (atoms_seen a) → kind_of_atom (get_or (atoms_seen a) j d) ≡ kind_seen a
+pub seen_kind : (a : Leaf) (j : ℕ) (d : Atom) → j < length (atoms_in a) → kind_of_atom (get_or (atoms_in a) j d) ≡ kind_in a
 seen_kind (items.Int xs) j d h = seen_of atom.Int sort.Int kind_int xs.now j d h
 seen_kind (items.Char xs) j d h = seen_of atom.Char sort.Char kind_char xs.now j d h
 seen_kind (items.Cell xs) j d h = seen_of atom_of sort.Boxed kind_cell xs.now j d h
 
-pub apart : (verb : Primitive) (a b : Items) (cell : ℕ) → (kind_seen a ≡ kind_seen b → ⊥) → 0 < cell → length (atoms_seen b) ≡ length (atoms_seen a) * cell →
-    by_place (pair_at verb (atoms_seen a) cell (atoms_seen b)) (length (atoms_seen b)) ≡ by_place (λ j. compared verb false) (length (atoms_seen b))
+pub apart : (verb : Primitive) (a b : Leaf) (cell : ℕ) → (kind_in a ≡ kind_in b → ⊥) → 0 < cell → length (atoms_in b) ≡ length (atoms_in a) * cell →
+    by_place (pair_at verb (atoms_in a) cell (atoms_in b)) (length (atoms_in b)) ≡ by_place (λ j. compared verb false) (length (atoms_in b))
 apart verb a b cell other some whole =
     same_by_place _ _ _ (λ j h.
-    let there : j / cell < length (atoms_seen a) = (div-lt_iff_lt-mul {k = cell} {x = j} {y = length (atoms_seen a)} some).1 (omega arith) in
+    let there : j / cell < length (atoms_in a) = (div-lt_iff_lt-mul {k = cell} {x = j} {y = length (atoms_in a)} some).1 (omega arith) in
     ap (compared verb) (unequal _ _ (λ e. other (sym (seen_kind a (j / cell) _ there) ∙ e ∙ seen_kind b j _ h))))
 
-pub not_ints : (b : Items) → ((xs : _) → b ≡ items.Int xs → ⊥) → sort.Int ≡ kind_seen b → ⊥
+pub not_ints : (b : Leaf) → ((xs : _) → b ≡ items.Int xs → ⊥) → sort.Int ≡ kind_in b → ⊥
 not_ints (items.Int xs) h e = h xs refl
 not_ints (items.Char xs) h e = cc
 not_ints (items.Cell xs) h e = cc
 
-pub not_chars : (b : Items) → ((xs : _) → b ≡ items.Char xs → ⊥) → sort.Char ≡ kind_seen b → ⊥
+pub not_chars : (b : Leaf) → ((xs : _) → b ≡ items.Char xs → ⊥) → sort.Char ≡ kind_in b → ⊥
 not_chars (items.Int xs) h e = cc
 not_chars (items.Char xs) h e = h xs refl
 not_chars (items.Cell xs) h e = cc
 
-pub not_cells : (b : Items) → ((xs : _) → b ≡ items.Cell xs → ⊥) → sort.Boxed ≡ kind_seen b → ⊥
+pub not_cells : (b : Leaf) → ((xs : _) → b ≡ items.Cell xs → ⊥) → sort.Boxed ≡ kind_in b → ⊥
 not_cells (items.Int xs) h e = cc
 not_cells (items.Char xs) h e = cc
 not_cells (items.Cell xs) h e = h xs refl

@@ -5,7 +5,6 @@ use mir.Val.{SFits}
 use Rattle.std.proofs.lemmas.Int.{to_z-of_z}
 use Rattle.jdata.specs.declared.primitive.Primitive.{Primitive}
 use Rattle.jscalar.specs.Dyads.{two_of}
-use Rattle.jdyad.specs.Table.{sided}
 use Rattle.std.proofs.Math.ListN.{set}
 use Rattle.std.specs.List.{range_with_len}
 use Rattle.std.proofs.lemmas.List.FromFn.{map-range_with_len_more, take-map-range_with_len}
@@ -13,8 +12,9 @@ use Rattle.std.proofs.lemmas.List.{take-append-drop, take_more_set, drop-set-lt,
 use Rattle.std.proofs.lemmas.Grind.{drop_more_same}
 use Rattle.std.proofs.lemmas.Nat.{div-mul-add}
 use Rattle.jdata.specs.declared.fault.Fault.{Fault}
-use Rattle.jdyad.specs.Atoms.{by_place}
-use Rattle.jarray.specs.Numbers.{in_place, all_or_first, in_front}
+use Rattle.jscalar.specs.Places.{by_place}
+use Rattle.jarray.specs.Numbers.{in_place}
+use Rattle.jdata.specs.Firsts.{all_or_first, in_front}
 
 -- at the first places, so many of them, stand these numbers
 abbrev pub Gives : (ℕ → Result ℤ Fault) → ℕ → List ℤ → Type 0
@@ -104,20 +104,6 @@ right_at verb xs cell ys j = two_of verb (get_or xs (j / cell) (pos 0)) (get_or 
 -- each of ys serves so many of xs
 abbrev pub left_at : Primitive → List ℤ → List ℤ → ℕ → ℕ → Result ℤ Fault
 left_at verb xs ys cell j = two_of verb (get_or xs j (pos 0)) (get_or ys (j / cell) (pos 0))
-
--- each of others serves so many of numbers
-abbrev pub sided_at : ℕ → Primitive → List ℤ → ℕ → List ℤ → ℕ → Result ℤ Fault
-sided_at side verb others cell numbers j = sided side verb (get_or others (j / cell) (pos 0)) (get_or numbers j (pos 0))
-
-pub sided_is : (side : ℕ) (verb same : Primitive) (others : List ℤ) (cell : ℕ) (now old : List ℤ) (item used at : ℕ) (r : Result ℤ Fault) →
-    item * cell + used ≡ at → used < cell → IsFilled (sided_at side verb others cell old) at now old → same ≡ verb →
-    SFits w64 (get_or others item (pos 0)) → SFits w64 (get_or now at (pos 0)) →
-    r ≡ sided side same (to_z w64 (of_z w64 (get_or others item (pos 0)))) (to_z w64 (of_z w64 (get_or now at (pos 0)))) → sided_at side verb others cell old at ≡ r
-sided_is side verb same others cell now old item used at r e h was v f g is =
-    ap (λ y. sided side verb (get_or others (at / cell) (pos 0)) y) (sym (next_is _ at now old was))
-    ∙ ap (λ k. sided side verb (get_or others k (pos 0)) (get_or now at (pos 0))) (in_use item used cell at e h)
-    ∙ (λ i. sided side (sym v i) (sym (to_z-of_z w64 (get_or others item (pos 0)) f) i) (sym (to_z-of_z w64 (get_or now at (pos 0)) g) i))
-    ∙ sym is
 
 same_from : (at other : ℕ → Result ℤ Fault) (a n : ℕ) → ((j : ℕ) → a ≤ j → j < a + n → at j ≡ other j) → map at (range_with_len a n) ≡ map other (range_with_len a n)
 same_from at other a zero h = refl

@@ -1,5 +1,6 @@
 -- What the verbs give of two atoms, by the kinds of both.
 use Rattle.std.specs.Prelude.{ℕ, ℤ, pos, ◌/◌, ◌⊎◌, Bool, true, false, ◌≡◌, List, map}
+use Rattle.jscalar.specs.Places.{by_place}
 use Rattle.std.proofs.Common.{sym, ◌∙◌, ap, refl, get_or, inl, inr}
 use Rattle.std.specs.Ordering.{int_eq}
 use Rattle.std.proofs.lemmas.Bool.Decides.{Decides-int_eq}
@@ -11,10 +12,10 @@ use Rattle.jdata.specs.declared.noun.Atom.TheOpen as one
 use Rattle.jdata.specs.declared.noun.Atom.TheVariants as atom
 use Rattle.jdata.specs.declared.primitive.Primitive.{Primitive}
 use Rattle.jdata.specs.declared.primitive.Primitive.TheVariants.{Equal, TildeColon}
-use Rattle.jscalar.specs.Dyads.{two_of}
+use Rattle.jscalar.specs.Dyads.{two_of, dyad_on}
 use Rattle.jarray.specs.Matches.{equal_atoms}
 use Rattle.jarray.proofs.Equality.{equal_decides}
-use Rattle.jdyad.specs.Atoms.{is_comparison, compared, of_atoms, of_layers, by_place}
+use Rattle.jdyad.specs.Atoms.{is_comparison, compared, of_atoms, of_layers}
 use Rattle.jdyad.specs.Dyads.{spread}
 use Rattle.jdyad.proofs.Comparing.{equal_ints, equal_when, pair_at}
 use Rattle.jdyad.proofs.Filling.{right_at, left_at, same_by_place}
@@ -35,7 +36,7 @@ unfolding of_atoms
 of_ints verb m n = λ i. of_layers verb (equal_atoms (atom.Int m) (atom.Int n)) (atom.outs-Int m i) (atom.outs-Int n i)
 
 two_compared : (verb : Primitive) → is_comparison verb ≡ true → (m n : ℤ) → two_of verb m n ≡ compared verb (int_eq m n)
-unfolding is_comparison compared two_of
+unfolding is_comparison compared dyad_on
 two_compared Equal h m n = refl
 two_compared TildeColon h m n = refl
 two_compared verb h m n = cc

@@ -1,6 +1,5 @@
 -- A scalar dyad on two atoms, which needn't be integers (NuVoc "=" Equal, "~:" Not-Equal), and place by place.
-use Rattle.std.specs.Prelude.{ℕ, Bool, true, false, not, ℤ, Result, Ok, Err, List, map}
-use Rattle.std.specs.List.{range_with_len}
+use Rattle.std.specs.Prelude.{Bool, true, false, not, ℤ, Result, Ok, Err}
 use Rattle.jdata.specs.declared.fault.Fault.{Fault}
 use Rattle.jdata.specs.declared.fault.Fault.TheVariants.{Domain}
 use Rattle.jdata.specs.declared.primitive.Primitive.{Primitive}
@@ -11,7 +10,6 @@ use Rattle.jdata.specs.declared.noun.Atom.TheOpen as one
 use Rattle.jscalar.specs.Truths.{truth}
 use Rattle.jscalar.specs.Dyads.{two_of}
 use Rattle.jarray.specs.Matches.{equal_atoms}
-use Rattle.jarray.specs.Numbers.{all_or_first}
 
 -- the verbs that take any kind
 unfoldable pub is_comparison : Primitive → Bool
@@ -32,7 +30,3 @@ of_layers verb equal left right = compared verb equal
 
 unfoldable pub of_atoms : Primitive → Atom → Atom → Result ℤ Fault
 of_atoms verb a b = of_layers verb (equal_atoms a b) (out-Atom a) (out-Atom b)
-
--- what is at the first places, so many of them
-unfoldable pub by_place : (ℕ → Result ℤ Fault) → ℕ → Result (List ℤ) Fault
-by_place at count = all_or_first (map at (range_with_len 0 count))

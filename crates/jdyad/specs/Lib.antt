@@ -1,4 +1,2 @@
-pub mod Agreement
 pub mod Atoms
 pub mod Dyads
-pub mod Table

@@ -1,21 +1,21 @@
 //! `=` and `~:` on atoms of any kind.
 
 ghost use Rattle.std.specs.Prelude.{◌≡◌, ◌↔◌, ◌*◌, ◌/◌, ◌<◌, true, false, Ok, IfOk, IsTrue, pos, length, map, slice_index_or};
+ghost use Rattle.jscalar.specs.Places.{by_place};
 ghost use Rattle.jdata.specs.declared.noun.Atom.{Atom};
 ghost use Rattle.jdata.specs.declared.noun.Atom.TheVariants as atom;
 ghost use Rattle.jdata.specs.Trees.{atom_of};
 ghost use Rattle.jscalar.specs.Truths as truths;
-ghost use Rattle.jarray.specs.Arrays.{atoms_seen};
+ghost use Rattle.jdata.specs.Leaf.{atoms_in};
 ghost use Rattle.jarray.specs.Matches.{equal_atoms};
-ghost use Rattle.jdyad.specs.Atoms.{is_comparison, compared, by_place};
+ghost use Rattle.jdyad.specs.Atoms.{is_comparison, compared};
 
 use crate::place::Place;
-use jarray::Items;
-use jdata::{Cell, NoMemory, Primitive};
+use jdata::{Cell, Leaf, NoMemory, Primitive};
 use std::alloc::Global;
 
 /// What an array keeps for each of its atoms.
-trait Leaf {
+trait Kept {
     /// The atom that it is.
     ghost atom: { Self → Atom };
 
@@ -23,7 +23,7 @@ trait Leaf {
         ensures { result ≡ equal_atoms (atom self.now) (atom other.now) };
 }
 
-impl Leaf for i64 {
+impl Kept for i64 {
     ghost atom = { λ n. atom.Int n };
 
     fn equals(&self, other: &i64) -> bool {
@@ -31,7 +31,7 @@ impl Leaf for i64 {
     }
 }
 
-impl Leaf for u8 {
+impl Kept for u8 {
     ghost atom = { λ n. atom.Char n };
 
     fn equals(&self, other: &u8) -> bool {
@@ -39,7 +39,7 @@ impl Leaf for u8 {
     }
 }
 
-impl Leaf for Cell {
+impl Kept for Cell {
     ghost atom = { atom_of };
 
     fn equals(&self, other: &Cell) -> bool {
@@ -56,30 +56,30 @@ impl Leaf for Cell {
 pub fn compare(
     alloc: Global,
     verb: Primitive,
-    shorter: Items<'_>,
+    shorter: Leaf<'_>,
     cell: usize,
-    longer: Items<'_>,
+    longer: Leaf<'_>,
 ) -> Result<Vec<i64>, NoMemory>
     requires comparison { is_comparison verb ≡ true }
     requires some { 0 < cell }
-    requires whole { length (atoms_seen longer) ≡ length (atoms_seen shorter) * cell }
-    ensures { IfOk result (λ v. by_place (λ j. compared verb (equal_atoms (slice_index_or (atoms_seen shorter.entry) (j / cell) (atom.Int (pos 0))) (slice_index_or (atoms_seen longer.entry) j (atom.Int (pos 0))))) (length (atoms_seen longer.entry)) ≡ Ok v.items) }
+    requires whole { length (atoms_in longer) ≡ length (atoms_in shorter) * cell }
+    ensures { IfOk result (λ v. by_place (λ j. compared verb (equal_atoms (slice_index_or (atoms_in shorter.entry) (j / cell) (atom.Int (pos 0))) (slice_index_or (atoms_in longer.entry) j (atom.Int (pos 0))))) (length (atoms_in longer.entry)) ≡ Ok v.items) }
 {
     match (shorter, longer) {
-        (Items::Int(shorter), Items::Int(longer)) => {
+        (Leaf::Int(shorter), Leaf::Int(longer)) => {
             compare_each(alloc, verb, shorter, cell, longer)
         }
-        (Items::Char(shorter), Items::Char(longer)) => {
+        (Leaf::Char(shorter), Leaf::Char(longer)) => {
             compare_each(alloc, verb, shorter, cell, longer)
         }
-        (Items::Cell(shorter), Items::Cell(longer)) => {
+        (Leaf::Cell(shorter), Leaf::Cell(longer)) => {
             compare_each(alloc, verb, shorter, cell, longer)
         }
         _ => differ(alloc, verb, longer.len()),
     }
 }
 
-fn compare_each<L: Leaf>(
+fn compare_each<L: Kept>(
     alloc: Global,
     verb: Primitive,
     shorter: &[L],

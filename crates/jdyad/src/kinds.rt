@@ -4,15 +4,17 @@ ghost use Rattle.std.specs.Prelude.{◌≡◌};
 ghost use Rattle.jdyad.specs.Atoms as atoms;
 ghost use Rattle.jarray.specs.Numbers.{is_integers};
 ghost use Rattle.jdyad.specs.Dyads as dyads;
+ghost use Rattle.jscalar.specs.Dyads.{is_scalar_dyad};
 
-use jarray::{Array, Items};
+use jarray::{Array, Room};
 use jdata::Primitive;
+use jscalar::scalar_dyads;
 
 /// `=` and `~:` take any kinds, the other verbs integers; an argument without atoms passes.
-pub fn takes(verb: Primitive, x: &Array, y: &Array) -> bool
-    ensures { result ≡ dyads.takes verb x.now y.now }
+pub fn takes(room: &Room, verb: Primitive, x: &Array, y: &Array) -> bool
+    ensures { result ≡ dyads.takes verb x.now.noun y.now.noun }
 {
-    is_comparison(verb) || (is_integers(x) && is_integers(y))
+    is_comparison(verb) || (is_integers(room, x) && is_integers(room, y))
 }
 
 fn is_comparison(verb: Primitive) -> bool
@@ -21,11 +23,19 @@ fn is_comparison(verb: Primitive) -> bool
     matches!(verb, Primitive::Equal | Primitive::TildeColon)
 }
 
-fn is_integers(array: &Array) -> bool
-    ensures { result ≡ is_integers array.now }
+fn is_integers(room: &Room, array: &Array) -> bool
+    ensures { result ≡ is_integers array.now.noun }
 {
-    match array.items() {
-        Items::Int(_) => true,
-        items => items.len() == 0,
-    }
+    array.numbers(room).is_some()
+}
+
+macro_rules! is_listed {
+    (($verb:ident) $($name:ident $row:ident)*) => { matches!($verb, $(Primitive::$name)|*) };
+}
+
+#[tactic(auto, unfolding(jscalar::specs::Dyads::dyad_on))]
+pub fn is_scalar(verb: Primitive) -> bool
+    ensures { result ≡ is_scalar_dyad verb }
+{
+    scalar_dyads!(is_listed verb)
 }

@@ -8,7 +8,6 @@ mod kinds;
 mod numbers;
 mod place;
 mod scalar;
-mod whole;
 
 pub use scalar::scalar2;
 

@@ -1,11 +1,8 @@
-#![tactic(auto, unfolding(jscalar::specs::Dyads::is_scalar_dyad))]
-
-ghost use Rattle.std.specs.Prelude.{◌≡◌, true};
-ghost use Rattle.jscalar.specs.Dyads.{is_scalar_dyad};
+#![tactic(auto)]
 
 use crate::scalar2;
-use jarray::{Array, Items, Room};
-use jdata::{Bytes, Cell, CellList, Fault, IntList, Leaves, Primitive, Tree, Trouble};
+use jarray::{Array, Room};
+use jdata::{Bytes, Cell, CellList, Fault, IntList, Leaf, Leaves, Primitive, Tree, Trouble};
 use std::alloc::Global;
 use std::process::Abort;
 use std::test::Fail;
@@ -42,21 +39,18 @@ fn gives(
     y: Array,
     shape: &[u64],
     numbers: &[i64],
-) -> Result<(), Fail>
-    requires { is_scalar_dyad verb ≡ true }
-{
-    let result = scalar2(alloc, &mut Room::none(), verb, x, y)?;
-    assert_eq!(rt; result.shape(), shape);
-    match result.items() {
-        Items::Int(found) => assert_eq!(rt; found, numbers),
+) -> Result<(), Fail> {
+    let mut room = Room::none();
+    let result = scalar2(alloc, &mut room, verb, x, y)?;
+    assert_eq!(rt; result.shape(&room), shape);
+    match result.leaf(&room) {
+        Leaf::Int(found) => assert_eq!(rt; found, numbers),
         _ => assert!(rt; false),
     }
     Ok(())
 }
 
-fn is_refused(rt: &impl Abort, alloc: Global, verb: Primitive, x: Array, y: Array, fault: Fault)
-    requires { is_scalar_dyad verb ≡ true }
-{
+fn is_refused(rt: &impl Abort, alloc: Global, verb: Primitive, x: Array, y: Array, fault: Fault) {
     match scalar2(alloc, &mut Room::none(), verb, x, y) {
         Ok(_) => assert!(rt; false),
         Err(why) => assert_eq!(rt; why, Trouble::Fault(fault)),

@@ -12,7 +12,7 @@ use Rattle.jdata.specs.declared.tree.BadTree.{BadTree}
 use Rattle.jdata.specs.declared.tree.BadTree.TheVariants as bad
 use Rattle.jdata.specs.declared.fault.Trouble.{Trouble}
 use Rattle.jdata.specs.declared.fault.Trouble.TheVariants as trouble
-use Rattle.jshape.specs.Shapes.{IsShape}
+use Rattle.jdata.specs.Limits.{IsShape}
 use Rattle.jdata.specs.Answers.{Answers}
 use Rattle.jformat.specs.Troubles.{IsLimitWhere}
 use Rattle.jdata.specs.Limits.{limited}

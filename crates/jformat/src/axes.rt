@@ -1,7 +1,7 @@
 //! The rows and columns of an array.
 
 ghost use Rattle.std.specs.Prelude.{◌≡◌, ◌+◌, ◌*◌, ◌≤◌, IfOk, length, take, drop};
-ghost use Rattle.jshape.specs.Shapes.{IsShape};
+ghost use Rattle.jdata.specs.Limits.{IsShape};
 ghost use Rattle.jformat.specs.Rows as rows;
 
 use jdata::NoMemory;

@@ -5,7 +5,7 @@ ghost use Rattle.std.specs.List.{range_with_len, flat_map};
 ghost use Rattle.jdata.specs.Noun.{kind, product};
 ghost use Rattle.jdata.specs.declared.noun.Kind.TheVariants as sort;
 ghost use Rattle.jnumber.specs.Spelling.{written};
-ghost use Rattle.jshape.specs.Shapes.{IsShape};
+ghost use Rattle.jdata.specs.Limits.{IsShape};
 ghost use Rattle.jformat.specs.Rows.{integer_row, width_of};
 ghost use Rattle.jdata.specs.Answers.{Answers};
 ghost use Rattle.jdata.specs.Limits.{limited};

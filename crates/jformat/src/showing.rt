@@ -4,7 +4,7 @@ ghost use Rattle.std.specs.Prelude.{◌≡◌, ◌≢◌, IfOk, [], ◌∷◌, l
 ghost use Rattle.jdata.specs.Noun.{kind, product};
 ghost use Rattle.jdata.specs.declared.noun.Kind.TheVariants as sort;
 ghost use Rattle.jnumber.specs.Spelling.{written};
-ghost use Rattle.jshape.specs.Shapes.{IsShape};
+ghost use Rattle.jdata.specs.Limits.{IsShape};
 ghost use Rattle.jformat.specs.Rows.{display_of, rows_by, lines_of};
 
 use crate::axes::{atoms_of_row, last_axis, row_shape};

@@ -1,12 +1,11 @@
 //! How wide columns of integers are.
 
-ghost use Rattle.std.specs.Prelude.{◌≡◌, ◌==◌, ◌+◌, ◌-◌, ◌*◌, ◌<◌, ◌≤◌, ℕ, IfOk, if◌then◌else◌, length, map, max, slice_index, slice_index_or, [], sum};
+ghost use Rattle.std.specs.Prelude.{◌≡◌, ◌==◌, ◌+◌, ◌-◌, ◌*◌, ◌<◌, ◌≤◌, ℕ, IfOk, if◌then◌else◌, length, map, max, slice_index, slice_index_or, [], sum, decimal};
 ghost use Rattle.std.specs.List.{range_with_len};
 ghost use Rattle.jnumber.specs.Spelling.{written};
 ghost use Rattle.jformat.specs.Rows.{width_of};
 
 use crate::axes::atoms_of_row;
-use itoa::Buffer;
 use jdata::NoMemory;
 use std::alloc::Global;
 
@@ -45,9 +44,22 @@ fn widen(widths: &mut [u8], numbers: &[i64])
 pub(crate) fn length_of(number: i64) -> u8
     ensures { result ≡ length (written number) }
 {
-    let mut buffer = Buffer::new();
-    let digits = buffer.format(number.unsigned_abs()).len() as u8;
+    let digits = digit_count(number.unsigned_abs());
     if number < 0 { digits + 1 } else { digits }
+}
+
+/// How many digits a number is written with: one for 0.
+fn digit_count(number: u64) -> u8
+    ensures count { result ≡ length (decimal number) }
+    ensures few { result ≤ 20 }
+{
+    let mut count = 1;
+    let mut rest = number / 10;
+    while rest > 0 {
+        rest /= 10;
+        count += 1;
+    }
+    count
 }
 
 /// How wide rows of these columns are: the columns, and a blank between two.

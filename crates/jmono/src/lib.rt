@@ -2,8 +2,7 @@
 #![tactic(auto)]
 
 mod monads;
-mod numbers;
 #[cfg(test)]
 mod tests;
 
-pub use monads::scalar1;
+pub use monads::{each_integer, scalar1};

@@ -1,91 +1,112 @@
 //! Scalar monads on arrays.
 
-ghost use Rattle.std.specs.Prelude.{◌≡◌, ◌≢◌, ◌↔◌, true, map, Err, IsTrue};
-ghost use Rattle.jdata.specs.Noun.{noun, int_atom, product};
+ghost use Rattle.std.specs.Prelude.{◌≡◌, ◌≢◌, None, map, ℤ, Err};
+ghost use Rattle.jarray.specs.Numbers.{integers};
+ghost use Rattle.jarray.specs.Placed.{Gives};
+ghost use Rattle.jdata.specs.Firsts.{all_or_first};
 ghost use Rattle.jdata.specs.Limits.{IsArray};
+ghost use Rattle.jdata.specs.Noun.{noun, int_atom};
 ghost use Rattle.jdata.specs.declared.fault.Trouble.TheVariants as trouble;
-ghost use Rattle.jdata.specs.declared.noun.Kind.TheVariants as sort;
 ghost use Rattle.jdata.specs.declared.noun.Atom.TheVariants as atom;
-ghost use Rattle.jscalar.specs.Monads.{is_scalar_monad, one_of};
-ghost use Rattle.jdata.specs.Answers.{Answers};
-ghost use Rattle.jmono.specs.Monads.{scalar_monad};
-ghost use Rattle.jarray.specs.Numbers.{integers, all_or_first};
+ghost use Rattle.jdata.specs.declared.noun.Kind.TheVariants as sort;
+ghost use Rattle.jmono.specs.Monads as monads;
 
-use crate::numbers::apply_each;
-use jarray::{Array, Form, Room};
-use jdata::{Fault, IntList, Leaves, Primitive, Tree, Trouble};
-use jscalar::one;
+use jarray::{Array, Room};
+use jdata::{Fault, IntList, Leaves, NoMemory, Primitive, Tree, Trouble, product_of};
+use jscalar::{Monad, each, scalar_monads};
 use std::alloc::Global;
 
+macro_rules! by_verb {
+    (($alloc:ident $room:ident $verb:ident $y:ident) $($name:ident $row:ident)*) => {
+        match $verb {
+            $(Primitive::$name => each_integer::<jscalar::monads::$row>($alloc, $room, $y),)*
+            _ => refused($room, $y),
+        }
+    };
+}
+
 /// What a scalar monad gives of each atom, as an array of the same shape, in the same buffer. Its
-/// faults are Domain, for atoms that aren't integers, and else that of the first atom in ravel
-/// order that has one. No memory.
-pub fn scalar1(alloc: Global, _room: &mut Room, verb: Primitive, y: Array) -> Result<Array, Trouble>
-    requires { is_scalar_monad verb ≡ true }
-    ensures answer { Answers (scalar_monad verb y) result }
-    ensures memory { result ≢ Err trouble.NoMemory }
+/// faults are Nonce for a verb that is no scalar monad, Domain for atoms that aren't integers, and
+/// else that of the first atom in ravel order that has one. No memory, unless the array is in a block.
+#[tactic(auto, unfolding(jscalar::specs::Monads::monad_on))]
+pub fn scalar1(alloc: Global, room: &mut Room, verb: Primitive, y: Array) -> Result<Array, Trouble>
+    ensures answer { Gives (monads.scalar_monad verb y.noun) result }
+    ensures memory { y.block ≡ None → result ≢ Err trouble.NoMemory }
 {
-    match y.into_form() {
-        Form::Atom(number) => of_atom(verb, number),
-        Form::Own(tree) => of_tree(alloc, verb, tree),
+    scalar_monads!(by_verb alloc room verb y)
+}
+
+fn refused(room: &mut Room, y: Array) -> Result<Array, Trouble>
+    ensures { result ≡ Err (trouble.Fault Fault.Nonce) }
+{
+    y.done(room);
+    Err(Trouble::Fault(Fault::Nonce))
+}
+
+/// What the verb gives of each atom, as for `scalar1`.
+pub fn each_integer<V: Monad>(alloc: Global, room: &mut Room, y: Array) -> Result<Array, Trouble>
+    ensures answer { Gives (monads.each_integer V.meant y.noun) result }
+    ensures memory { y.block ≡ None → result ≢ Err trouble.NoMemory }
+{
+    match y.integer(room) {
+        Some(number) => {
+            y.done(room);
+            of_atom::<V>(number)
+        }
+        None => of_array::<V>(alloc, room, y),
     }
 }
 
-fn of_atom(verb: Primitive, number: i64) -> Result<Array, Trouble>
-    requires { is_scalar_monad verb ≡ true }
-    ensures answer { Answers (scalar_monad verb (int_atom number)) result }
+fn of_atom<V: Monad>(number: i64) -> Result<Array, Trouble>
+    ensures answer { Gives (monads.each_integer V.meant (int_atom number)) result }
     ensures memory { result ≢ Err trouble.NoMemory }
 {
-    match one(verb, number) {
-        Ok(value) => Ok(Array::atom(value)),
-        Err(fault) => Err(Trouble::Fault(fault)),
+    let (value, none) = V::raw(number);
+    if none {
+        Err(Trouble::Fault(Fault::Nonce))
+    } else {
+        Ok(Array::atom(value))
     }
 }
 
-fn of_tree(alloc: Global, verb: Primitive, tree: Tree) -> Result<Array, Trouble>
-    requires { is_scalar_monad verb ≡ true }
-    ensures answer { Answers (scalar_monad verb tree) result }
-    ensures memory { result ≢ Err trouble.NoMemory }
+fn of_array<V: Monad>(alloc: Global, room: &mut Room, y: Array) -> Result<Array, Trouble>
+    requires { (n : ℤ) → y.noun ≢ int_atom n }
+    ensures answer { Gives (monads.each_integer V.meant y.noun) result }
+    ensures memory { y.block ≡ None → result ≢ Err trouble.NoMemory }
 {
-    let is_empty = has_no_atoms(tree.shape());
-    let (shape, leaves) = tree.into_parts();
+    match y.take_out(alloc, room) {
+        Ok((tree, spot)) => match of_tree::<V>(alloc, tree) {
+            Ok(tree) => Ok(spot.put_back(tree, room)),
+            Err(fault) => Err(Trouble::Fault(fault)),
+        },
+        Err(NoMemory) => Err(Trouble::NoMemory),
+    }
+}
+
+fn of_tree<V: Monad>(alloc: Global, tree: Tree) -> Result<Tree, Fault>
+    ensures { result ≡ monads.each_integer V.meant tree }
+{
+    let is_empty = product_of(tree.shape()) == 0;
+    let (axes, leaves) = tree.into_parts();
     match leaves {
-        Leaves::Int(numbers) => of_numbers(verb, shape, numbers.into_items()),
+        Leaves::Int(numbers) => of_numbers::<V>(axes, numbers.into_items()),
         _ => {
             if is_empty {
-                Ok(integer_array(shape, Vec::new(alloc)))
+                Ok(jarray::integers(axes, IntList::of(Vec::new(alloc))))
             } else {
-                Err(Trouble::Fault(Fault::Domain))
+                Err(Fault::Domain)
             }
         }
     }
 }
 
-fn has_no_atoms(shape: &[u64]) -> bool
-    ensures { IsTrue result ↔ (product shape.now ≡ 0) }
+fn of_numbers<V: Monad>(axes: Vec<u64>, mut numbers: Vec<i64>) -> Result<Tree, Fault>
+    requires { IsArray (noun axes.items sort.Int (map atom.Int numbers.items)) }
+    ensures { result ≡ integers axes.items (all_or_first (map V.meant numbers.items)) }
 {
-    shape.contains(&0)
-}
-
-fn of_numbers(verb: Primitive, shape: Vec<u64>, mut numbers: Vec<i64>) -> Result<Array, Trouble>
-    requires verb { is_scalar_monad verb ≡ true }
-    requires array { IsArray (noun shape.items sort.Int (map atom.Int numbers.items)) }
-    ensures answer { Answers (integers shape.items (all_or_first (map (one_of verb) numbers.items))) result }
-    ensures memory { result ≢ Err trouble.NoMemory }
-{
-    match apply_each(verb, numbers.as_mut_slice()) {
-        Ok(()) => Ok(integer_array(shape, numbers)),
-        Err(fault) => Err(Trouble::Fault(fault)),
-    }
-}
-
-/// The array of this shape with these numbers, in their buffers.
-fn integer_array(shape: Vec<u64>, numbers: Vec<i64>) -> Array
-    requires { IsArray (noun shape.items sort.Int (map atom.Int numbers.items)) }
-    ensures { result ≡ noun shape.items sort.Int (map atom.Int numbers.items) }
-{
-    match Tree::new(shape, Leaves::Int(IntList::of(numbers))) {
-        Ok(tree) => Array::of(tree),
-        Err(_) => unreachable!(),
+    if each::<V>(numbers.as_mut_slice()) {
+        Err(Fault::Nonce)
+    } else {
+        Ok(jarray::integers(axes, IntList::of(numbers)))
     }
 }

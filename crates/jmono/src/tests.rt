@@ -1,11 +1,8 @@
-#![tactic(auto, unfolding(jscalar::specs::Monads::is_scalar_monad))]
-
-ghost use Rattle.std.specs.Prelude.{◌≡◌, true};
-ghost use Rattle.jscalar.specs.Monads.{is_scalar_monad};
+#![tactic(auto)]
 
 use crate::scalar1;
-use jarray::{Array, Items, Room};
-use jdata::{Bytes, Cell, CellList, Fault, IntList, Kind, Leaves, Primitive, Tree, Trouble};
+use jarray::{Array, Room};
+use jdata::{Bytes, Cell, CellList, Fault, IntList, Kind, Leaf, Leaves, Primitive, Tree, Trouble};
 use std::alloc::Global;
 use std::process::Abort;
 use std::test::Fail;
@@ -37,22 +34,19 @@ fn gives(
     y: Array,
     shape: &[u64],
     numbers: &[i64],
-) -> Result<(), Fail>
-    requires { is_scalar_monad verb ≡ true }
-{
-    let result = scalar1(alloc, &mut Room::none(), verb, y)?;
-    assert_eq!(rt; result.kind(), Kind::Int);
-    assert_eq!(rt; result.shape(), shape);
-    match result.items() {
-        Items::Int(found) => assert_eq!(rt; found, numbers),
+) -> Result<(), Fail> {
+    let mut room = Room::none();
+    let result = scalar1(alloc, &mut room, verb, y)?;
+    assert_eq!(rt; result.kind(&room), Kind::Int);
+    assert_eq!(rt; result.shape(&room), shape);
+    match result.leaf(&room) {
+        Leaf::Int(found) => assert_eq!(rt; found, numbers),
         _ => assert!(rt; false),
     }
     Ok(())
 }
 
-fn is_refused(rt: &impl Abort, alloc: Global, verb: Primitive, y: Array, fault: Fault)
-    requires { is_scalar_monad verb ≡ true }
-{
+fn is_refused(rt: &impl Abort, alloc: Global, verb: Primitive, y: Array, fault: Fault) {
     match scalar1(alloc, &mut Room::none(), verb, y) {
         Ok(_) => assert!(rt; false),
         Err(Trouble::Fault(found)) => assert_eq!(rt; found, fault),

@@ -8,7 +8,8 @@ use mir.Syntax.{w64, w128}
 use mir.Val.{to_z, of_z}
 use Rattle.jdata.specs.declared.fault.Fault.{Fault}
 use Rattle.jdata.specs.declared.fault.Fault.TheVariants.{Nonce}
-use Rattle.jscalar.specs.Fitted.{is_within_64_bits, fitted}
+use Rattle.jdata.specs.Fits.{is_within_64_bits}
+use Rattle.jscalar.specs.Fitted.{fitted}
 
 pub fitted_within : (z : ℤ) → FitsSigned w64 z → fitted z ≡ Ok z
 unfolding fitted is_within_64_bits

@@ -1,4 +1,6 @@
 pub mod Fitted
+pub mod Flagged
+pub mod Places
 pub mod Searches
 pub mod Truths
 pub mod Quotients

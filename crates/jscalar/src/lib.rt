@@ -3,17 +3,21 @@
 
 mod choices;
 mod divisors;
-mod dyads;
+pub mod dyads;
 mod fitting;
 mod laws;
-mod monads;
+mod loops;
+pub mod monads;
 mod powers;
 mod quotients;
 mod roots;
+mod rows;
 #[cfg(test)]
 mod tests;
 mod truths;
 
 pub use dyads::two;
 pub use laws::{divisor_is_greatest, residue_is_within, roots_undo_powers, ways_are_by_factorials};
+pub use loops::{each, fill};
 pub use monads::one;
+pub use rows::{Dyad, Monad, OnRight, Turned};

@@ -1,13 +1,11 @@
-#![tactic(auto, unfolding(crate::specs::Monads::is_scalar_monad, crate::specs::Dyads::is_scalar_dyad))]
-
-ghost use Rattle.std.specs.Prelude.{◌≡◌, true};
-ghost use Rattle.jscalar.specs.Monads.{is_scalar_monad};
-ghost use Rattle.jscalar.specs.Dyads.{is_scalar_dyad};
+#![tactic(auto)]
 
 mod arithmetic;
 mod comparisons;
 
-use crate::{one, two};
+use crate::dyads::{Minus, Times};
+use crate::monads::{Increment, Square};
+use crate::{Turned, each, fill, one, two};
 use jdata::{Fault, Primitive};
 use std::process::Abort;
 use std::test::Fail;
@@ -34,17 +32,13 @@ fn told(value: i64) -> Result<i64, Fault> {
     }
 }
 
-fn check_one(rt: &impl Abort, verb: Primitive, row: &[i64; 12])
-    requires { is_scalar_monad verb ≡ true }
-{
+fn check_one(rt: &impl Abort, verb: Primitive, row: &[i64; 12]) {
     for at in 0..12 {
         assert_eq!(rt; one(verb, ATOMS[at]), told(row[at]));
     }
 }
 
-fn check_two(rt: &impl Abort, verb: Primitive, table: &[[i64; 12]; 12])
-    requires { is_scalar_dyad verb ≡ true }
-{
+fn check_two(rt: &impl Abort, verb: Primitive, table: &[[i64; 12]; 12]) {
     for row in 0..12 {
         for column in 0..12 {
             assert_eq!(rt;
@@ -55,9 +49,7 @@ fn check_two(rt: &impl Abort, verb: Primitive, table: &[[i64; 12]; 12])
     }
 }
 
-fn check_pairs(rt: &impl Abort, verb: Primitive, rows: &[(i64, i64, i64)])
-    requires { is_scalar_dyad verb ≡ true }
-{
+fn check_pairs(rt: &impl Abort, verb: Primitive, rows: &[(i64, i64, i64)]) {
     for &(x, y, value) in rows {
         assert_eq!(rt; two(verb, x, y), told(value));
     }
@@ -210,4 +202,27 @@ fn monads(rt: HostRuntime) -> Result<(), Fail> {
         check_one(&rt, *verb, row);
     }
     Ok(())
+}
+
+#[test]
+fn lists(rt: HostRuntime) {
+    let mut numbers = [1, 2, 3, 4, 5, 6, 7, 8, 9, MAX - 1];
+    assert!(rt; !each::<Increment>(&mut numbers));
+    assert_eq!(rt; numbers, [2, 3, 4, 5, 6, 7, 8, 9, 10, MAX]);
+    assert!(rt; each::<Increment>(&mut numbers));
+    let mut numbers = [-3, 0, 2, 3, 4, 5, 6, 7, 8, 9];
+    assert!(rt; !each::<Square>(&mut numbers));
+    assert_eq!(rt; numbers, [9, 0, 4, 9, 16, 25, 36, 49, 64, 81]);
+}
+
+#[test]
+fn pairs_and_cells(rt: HostRuntime) {
+    let mut numbers = [1, 2, 3, 4];
+    assert!(rt; !fill::<Minus>(&[10, 20], 2, &mut numbers));
+    assert_eq!(rt; numbers, [9, 8, 17, 16]);
+    assert!(rt; !fill::<Turned<Minus>>(&[1, 1, 1, 1], 1, &mut numbers));
+    assert_eq!(rt; numbers, [8, 7, 16, 15]);
+    assert!(rt; !fill::<Times>(&[1, 2, 3, 4], 1, &mut numbers));
+    assert_eq!(rt; numbers, [8, 14, 48, 60]);
+    assert!(rt; fill::<Times>(&[MAX], 4, &mut numbers));
 }

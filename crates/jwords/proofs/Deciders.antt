@@ -21,10 +21,11 @@ use Rattle.jnumber.proofs.Readings.{has_reading, one_reading}
 use Rattle.jwords.specs.declared.naming.Place.{Place}
 use Rattle.jwords.specs.declared.naming.Place.TheVariants.{Start, Inside, Underscore}
 use Rattle.jwords.specs.Alphabet.{quote, underscore, point, colon, first, is_number_start, is_number_byte}
-use Rattle.jwords.specs.Numbers.{is_number, is_decimal, fits}
+use Rattle.jwords.specs.Numbers.{is_number, is_decimal}
+use Rattle.jdata.specs.Fits.{is_within_64_bits}
 use Rattle.jwords.specs.Names.{IsPlain, IsJoined, one, more, IsDirect, IsName}
 use Rattle.jwords.specs.Places.{place_after, started}
-use Rattle.jwords.specs.Listed.{IsInflectedWord, IsNamedLoop, is_one_of, letter_words, control_words, is_among}
+use Rattle.jwords.specs.Listed.{IsInflectedWord, IsNamedLoop, is_one_of, is_listed, control_words, is_among}
 use Rattle.jwords.specs.Texts.{IsInside, IsQuoted}
 use Rattle.jwords.specs.Runs.{run_length, after_run, BeginsRun, BeginsNumber, IsNoNumber, IsList, last}
 use Rattle.jwords.specs.Formed.{closing_size, names_in, is_one, is_plain_name, last_byte, without_last, is_direct_front, is_direct_name, is_named_word, ends_loop, is_loop_word, is_listed_inflected, begins_run, is_number_run, begins_number, list_length}
@@ -177,13 +178,13 @@ pub inflected_decides : (word : List ℕ) → Decides (is_listed_inflected word)
 unfolding is_listed_inflected
 inflected_decides word =
     let l = loop_decides word in (
-      λ h. elim (or_cases (is_one_of letter_words word) (is_one_of control_words word || is_loop_word word) h) [
+      λ h. elim (or_cases (is_listed word) (is_one_of control_words word || is_loop_word word) h) [
         | inl e ↦ inl e
         | inr f ↦ elim (or_cases (is_one_of control_words word) (is_loop_word word) f) [ inl e ↦ inr (inl e) | inr e ↦ inr (inr (l.0 e)) ]
       ],
       λ w. elim w [
-        | inl e ↦ or_left (is_one_of letter_words word) (is_one_of control_words word || is_loop_word word) e
-        | inr f ↦ or_right (is_one_of letter_words word) (is_one_of control_words word || is_loop_word word) (elim f [
+        | inl e ↦ or_left (is_listed word) (is_one_of control_words word || is_loop_word word) e
+        | inr f ↦ or_right (is_listed word) (is_one_of control_words word || is_loop_word word) (elim f [
           | inl e ↦ or_left (is_one_of control_words word) (is_loop_word word) e
           | inr e ↦ or_right (is_one_of control_words word) (is_loop_word word) (l.1 e)
         ])
@@ -199,7 +200,8 @@ digits_decide (c ∷ cs) =
       λ a. and_from (is_decimal c) (list_all is_decimal cs) (lt-ltb (digit_value c) 10 a.0) (d.1 a.1),
     )
 
-fits_decides : (z : ℤ) → Decides (fits z) (SFits w64 z)
+fits_decides : (z : ℤ) → Decides (is_within_64_bits z) (SFits w64 z)
+unfolding is_within_64_bits
 fits_decides (pos n) = (λ e. record { sfits = ltb-true n (2 ^ 63) e }, λ f. lt-ltb n (2 ^ 63) f.sfits)
 fits_decides (negsuc n) = (λ e. record { sfits = ltb-true n (2 ^ 63) e }, λ f. lt-ltb n (2 ^ 63) f.sfits)
 
@@ -208,10 +210,10 @@ spells_decides run =
     let d = digits_decide (digits_in run) in
     let f = fits_decides (number_in run) in (
       λ h.
-          let b = and_parts (nat_lt 0 (length (digits_in run)) && list_all is_decimal (digits_in run)) (fits (number_in run)) h in
+          let b = and_parts (nat_lt 0 (length (digits_in run)) && list_all is_decimal (digits_in run)) (is_within_64_bits (number_in run)) h in
           let c = and_parts (nat_lt 0 (length (digits_in run))) (list_all is_decimal (digits_in run)) b.0 in
           record { digits = (ltb-true 0 (length (digits_in run)) c.0, d.0 c.1); value = refl; in_range = f.0 b.1 },
-      λ s. and_from (nat_lt 0 (length (digits_in run)) && list_all is_decimal (digits_in run)) (fits (number_in run))
+      λ s. and_from (nat_lt 0 (length (digits_in run)) && list_all is_decimal (digits_in run)) (is_within_64_bits (number_in run))
           (and_from (nat_lt 0 (length (digits_in run))) (list_all is_decimal (digits_in run)) (lt-ltb 0 (length (digits_in run)) s.digits.0) (d.1 s.digits.1)) (f.1 s.in_range),
     )
 

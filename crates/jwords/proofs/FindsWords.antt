@@ -13,7 +13,7 @@ use Rattle.jwords.specs.declared.word.WordFault.{WordFault}
 use Rattle.jwords.specs.declared.word.WordFault.TheVariants.{OpenQuote, Spelling, IllFormed}
 use Rattle.jwords.specs.Alphabet.{quote, colon, first, is_letter, is_number_start, is_inflection, is_name_byte}
 use Rattle.jwords.specs.Names.{IsName}
-use Rattle.jwords.specs.Listed.{is_symbol, is_constant, IsInflectedWord}
+use Rattle.jwords.specs.Listed.{is_listed, is_constant, IsInflectedWord}
 use Rattle.jwords.specs.Texts.{IsQuoted}
 use Rattle.jwords.specs.Runs.{name_length, inflected_length, run_length, symbol_length, IsNoNumber, BeginsNumber, IsList}
 use Rattle.jwords.specs.Cuts.{word_of}
@@ -81,8 +81,8 @@ unlettered_one at rest r s =
     (λ r. Judged r (is_constant (take (run_length rest + 1) rest) ≡ true) (word_of Inflected at (run_length rest + 1)) (Spelling at)) (FindsNumberList at rest) r s
     (judged_one r s (is_constant (take (run_length rest + 1) rest) ≡ true) (word_of Inflected at (run_length rest + 1)) (Spelling at)) (number_one at rest r s))
     (match_one (is_brace_pair rest) (λ r. r ≡ Ok (word_of Graphic at 2))
-    (λ r. Judged r (is_symbol (take (symbol_length rest) rest) ≡ true) (word_of Graphic at (symbol_length rest)) (Spelling at)) r s
-    (λ p q. p ∙ sym q) (judged_one r s (is_symbol (take (symbol_length rest) rest) ≡ true) (word_of Graphic at (symbol_length rest)) (Spelling at)))
+    (λ r. Judged r (is_listed (take (symbol_length rest) rest) ≡ true) (word_of Graphic at (symbol_length rest)) (Spelling at)) r s
+    (λ p q. p ∙ sym q) (judged_one r s (is_listed (take (symbol_length rest) rest) ≡ true) (word_of Graphic at (symbol_length rest)) (Spelling at)))
 
 pub words_one : (at : ℕ) (rest : List ℕ) (r s : Result Word WordFault) → Finds at rest r → Finds at rest s → r ≡ s
 words_one at rest r s =
@@ -145,7 +145,7 @@ unlettered_extent at rest w l =
     (let b = stands_within rest (run_length rest) colon (eqb-true (get_or rest (run_length rest) 0) colon e) (lit< tt) in omega (arith, b)))
     (λ e p. let z = list_size BeginsNumber (λ bytes b. b.run) rest p.0 p.1 in within_of Number at p.0 rest w p.2 z.0 z.1))
     (λ s. match_from (is_brace_pair rest) (IsFound w (word_of Graphic at 2))
-    (Judged (Ok w) (is_symbol (take (symbol_length rest) rest) ≡ true) (word_of Graphic at (symbol_length rest)) (Spelling at)) (Within at rest w)
+    (Judged (Ok w) (is_listed (take (symbol_length rest) rest) ≡ true) (word_of Graphic at (symbol_length rest)) (Spelling at)) (Within at rest w)
     (λ e p. within_of Graphic at 2 rest w (same_word w (word_of Graphic at 2) p) (lit< tt) (brace_size rest e))
     (λ e p. within_of Graphic at (symbol_length rest) rest w p.1 (omega arith) (symbol_size rest l)))
 

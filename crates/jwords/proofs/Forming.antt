@@ -15,7 +15,7 @@ use Rattle.jwords.specs.declared.word.SpanFault.TheVariants as span
 use Rattle.jwords.specs.Alphabet.{quote, colon, first, is_blank, is_letter, is_number_start, is_inflection}
 use Rattle.jwords.specs.Names.{IsName}
 use Rattle.jwords.specs.Texts.{IsQuoted, nothing}
-use Rattle.jwords.specs.Listed.{is_symbol, is_constant, IsInflectedWord}
+use Rattle.jwords.specs.Listed.{is_listed, is_constant, IsInflectedWord}
 use Rattle.jwords.specs.Runs.{name_length, inflected_length, run_length, symbol_length, BeginsRun, BeginsNumber, IsNoNumber, IsList}
 use Rattle.jwords.specs.Cuts.{word_of, IsCut, IsOutcome, StandsAt}
 use Rattle.jwords.specs.Words.{Judged, FindsText, FindsBareName, FindsInflected, FindsName, FindsNumberList, FindsNumber, FindsSymbol, Finds, is_brace_pair}
@@ -79,10 +79,10 @@ symbol_gives : (at : ℕ) (rest : List ℕ) → FindsSymbol at rest (find_symbol
 unfolding find_symbol
 symbol_gives at rest =
     choice_gives (is_brace_pair rest) (λ r. r ≡ Ok (word_of Graphic at 2))
-    (λ r. Judged r (is_symbol (take (symbol_length rest) rest) ≡ true) (word_of Graphic at (symbol_length rest)) (fault.Spelling at)) _ _
+    (λ r. Judged r (is_listed (take (symbol_length rest) rest) ≡ true) (word_of Graphic at (symbol_length rest)) (fault.Spelling at)) _ _
     (λ e. refl)
-    (λ e. judged_gives (is_symbol (take (symbol_length rest) rest)) (is_symbol (take (symbol_length rest) rest) ≡ true) (word_of Graphic at (symbol_length rest)) at
-    (flag_decides (is_symbol (take (symbol_length rest) rest))))
+    (λ e. judged_gives (is_listed (take (symbol_length rest) rest)) (is_listed (take (symbol_length rest) rest) ≡ true) (word_of Graphic at (symbol_length rest)) at
+    (flag_decides (is_listed (take (symbol_length rest) rest))))
 
 -- the rules behind those of quotes and letters, and behind that of quotes
 abbrev FindsUnlettered : ℕ → List ℕ → Result Word WordFault → Type 0

@@ -13,3 +13,4 @@ pub mod Ends
 pub mod Deciders
 pub mod Forming
 pub mod FormedWords
+pub mod VerbWords

@@ -1,33 +1,6 @@
 -- Lemmas on listed words: what the tests say of a word by its length.
 use Rattle.std.proofs.Common.{◌≡◌, ℕ, ◌<◌, ◌≤◌, Bool, false, List, [], ◌∷◌, length, get_or, refl, arith}
-use Rattle.jwords.specs.Listed.{is_symbol, is_marked_symbol, is_among, is_one_of, symbols_alone, longer_symbols, is_constant, is_plain_constant, is_signed_constant}
-
-pub symbol_empty : (word : List ℕ) → length word < 1 → is_symbol word ≡ false
-unfolding is_symbol
-symbol_empty [] l = refl
-symbol_empty (b ∷ w) l = absurd (omega arith)
-
-pub symbol_alone : (word : List ℕ) → length word ≡ 1 → is_symbol word ≡ is_among symbols_alone (get_or word 0 0)
-unfolding is_symbol
-symbol_alone [] l = absurd (omega arith)
-symbol_alone (b ∷ []) l = refl
-symbol_alone (b ∷ c ∷ w) l = absurd (omega arith)
-
-pub symbol_marked : (word : List ℕ) → length word ≡ 2 → is_symbol word ≡ is_marked_symbol (get_or word 0 0) (get_or word 1 0)
-unfolding is_symbol
-symbol_marked [] l = absurd (omega arith)
-symbol_marked (b ∷ []) l = absurd (omega arith)
-symbol_marked (b ∷ c ∷ []) l = refl
-symbol_marked (b ∷ c ∷ d ∷ w) l = absurd (omega arith)
-
-pub symbol_longer : (word : List ℕ) → 3 ≤ length word → is_symbol word ≡ is_one_of longer_symbols word
-unfolding is_symbol
-symbol_longer [] l = absurd (omega arith)
-symbol_longer (b ∷ []) l = absurd (omega arith)
-symbol_longer (b ∷ c ∷ []) l = absurd (omega arith)
-symbol_longer (b ∷ c ∷ d ∷ w) l = refl
-
-pub ruleset symbols = (symbol_empty, symbol_alone, symbol_marked, symbol_longer)
+use Rattle.jwords.specs.Listed.{is_constant, is_plain_constant, is_signed_constant}
 
 pub constant_plain : (word : List ℕ) → length word ≡ 2 → is_constant word ≡ is_plain_constant (get_or word 0 0) (get_or word 1 0)
 unfolding is_constant

@@ -14,7 +14,7 @@ use Rattle.jwords.specs.declared.word.SpanFault.TheVariants as span
 use Rattle.jwords.specs.Alphabet.{quote, colon, point, underscore, first, is_blank, is_letter, is_number_start, is_inflection}
 use Rattle.jwords.specs.Numbers.{is_number}
 use Rattle.jwords.specs.Places.{place_after, started}
-use Rattle.jwords.specs.Listed.{is_among, is_one_of, is_symbol, is_constant, letter_words, control_words}
+use Rattle.jwords.specs.Listed.{is_among, is_one_of, is_listed, is_constant, control_words}
 use Rattle.jwords.specs.Runs.{name_length, inflected_length, run_length, after_run, symbol_length}
 use Rattle.jwords.specs.Cuts.{word_of}
 use Rattle.jwords.specs.Words.{is_brace_pair}
@@ -68,7 +68,7 @@ unfoldable pub is_loop_word : List ℕ → Bool
 is_loop_word word = bytes_eq (take 4 word) (codes "for_") && ends_loop (drop 4 word)
 
 unfoldable pub is_listed_inflected : List ℕ → Bool
-is_listed_inflected word = is_one_of letter_words word || (is_one_of control_words word || is_loop_word word)
+is_listed_inflected word = is_listed word || (is_one_of control_words word || is_loop_word word)
 
 -- a run that no colon follows begins here, and it is a number
 unfoldable pub begins_run : List ℕ → Bool
@@ -113,7 +113,7 @@ find_number at rest =
 unfoldable pub find_symbol : ℕ → List ℕ → Result Word WordFault
 find_symbol at rest =
     if is_brace_pair rest then Ok (word_of Graphic at 2)
-    else judged (is_symbol (take (symbol_length rest) rest)) (word_of Graphic at (symbol_length rest)) at
+    else judged (is_listed (take (symbol_length rest) rest)) (word_of Graphic at (symbol_length rest)) at
 
 -- the word that the rest of a line from a place on begins with, or the fault
 unfoldable pub find_word : ℕ → List ℕ → Result Word WordFault

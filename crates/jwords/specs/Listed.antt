@@ -1,8 +1,9 @@
 -- The words of the language that are no names, numbers, texts or comments (NuVoc, "Vocabulary";
 -- J Dictionary, "Vocabulary" and "Control Structures").
-use Rattle.std.specs.Prelude.{◌≡◌, ℕ, Bool, true, false, ◌==◌, ◌&&◌, ◌⊎◌, not, if◌then◌else◌, List, [], ◌∷◌, ◌++◌, codes}
+use Rattle.std.specs.Prelude.{◌≡◌, ℕ, Bool, true, false, ◌==◌, ◌&&◌, ◌||◌, ◌⊎◌, not, if◌then◌else◌, List, [], ◌∷◌, ◌++◌, codes, is_some}
 use Rattle.std.specs.List.{list_any}
 use Rattle.std.specs.Str.{bytes_eq}
+use Rattle.jdata.specs.Spelling.{verb_of}
 use Rattle.jwords.specs.Alphabet.{point, colon, underscore, is_digit}
 use Rattle.jwords.specs.Names.{IsPlain}
 
@@ -14,36 +15,17 @@ is_among bytes byte = list_any (λ other. other == byte) bytes
 abbrev pub is_one_of : List (List ℕ) → List ℕ → Bool
 is_one_of words word = list_any (λ other. bytes_eq other word) words
 
--- the symbols that are words alone, with a point and with a colon; and the two words that are longer
-abbrev pub symbols_alone : List ℕ
-symbols_alone = codes "=<>+*-%^|,;#!$[]{/\\~}\"@&:()"
+-- the adverbs, conjunctions and nouns, the copulas and the parentheses
+abbrev pub other_words : List (List ℕ)
+other_words =
+    codes "/" ∷ codes "/." ∷ codes "\\" ∷ codes "\\." ∷ codes "~" ∷ codes "}"
+    ∷ codes "\"" ∷ codes "^:" ∷ codes "@" ∷ codes "@:" ∷ codes "&" ∷ codes "&:" ∷ codes "&." ∷ codes "&.:"
+    ∷ codes ":" ∷ codes "::" ∷ codes ";." ∷ codes "!:" ∷ codes "t."
+    ∷ codes "a." ∷ codes "a:" ∷ codes "=." ∷ codes "=:" ∷ codes "(" ∷ codes ")" ∷ []
 
-abbrev pub symbols_with_point : List ℕ
-symbols_with_point = codes "=<>+*-|~,;#{}/\\&"
-
-abbrev pub symbols_with_colon : List ℕ
-symbols_with_colon = codes "=<>+*-%^|~,;#/\\[{}\"@&!:"
-
-abbrev pub longer_symbols : List (List ℕ)
-longer_symbols = codes "{::" ∷ codes "&.:" ∷ []
-
--- a symbol with one mark of inflection
-abbrev pub is_marked_symbol : ℕ → ℕ → Bool
-is_marked_symbol byte mark =
-    if mark == point then is_among symbols_with_point byte
-    else (if mark == colon then is_among symbols_with_colon byte else false)
-
--- a word that starts with a symbol
-unfoldable pub is_symbol : List ℕ → Bool
-is_symbol [] = false
-is_symbol (byte ∷ []) = is_among symbols_alone byte
-is_symbol (byte ∷ mark ∷ []) = is_marked_symbol byte mark
-is_symbol (byte ∷ mark ∷ other ∷ rest) = is_one_of longer_symbols (byte ∷ mark ∷ other ∷ rest)
-
--- the verbs, nouns and the conjunction that a letter spells
-abbrev pub letter_words : List (List ℕ)
-letter_words =
-    codes "e." ∷ codes "i." ∷ codes "i:" ∷ codes "I." ∷ codes "L." ∷ codes "T." ∷ codes "t." ∷ codes "a." ∷ codes "a:" ∷ []
+-- a word that spells a verb, or one of the others
+unfoldable pub is_listed : List ℕ → Bool
+is_listed word = is_some (verb_of word) || is_one_of other_words word
 
 -- the control words but those that name a loop's variable
 abbrev pub control_words : List (List ℕ)
@@ -61,7 +43,7 @@ pub record IsNamedLoop (word : List ℕ) : Type 0 where
 -- a word that starts with a letter and is inflected
 abbrev pub IsInflectedWord : List ℕ → Type 0
 IsInflectedWord word =
-    (is_one_of letter_words word ≡ true) ⊎ ((is_one_of control_words word ≡ true) ⊎ IsNamedLoop word)
+    (is_listed word ≡ true) ⊎ ((is_one_of control_words word ≡ true) ⊎ IsNamedLoop word)
 
 -- a constant verb, `_9:` to `9:` without `_0:`: a digit and a colon, perhaps behind an underscore
 abbrev pub is_plain_constant : ℕ → ℕ → Bool

@@ -9,7 +9,7 @@ use Rattle.jwords.specs.declared.word.WordFault.{WordFault}
 use Rattle.jwords.specs.declared.word.WordFault.TheVariants.{OpenQuote, Spelling, IllFormed}
 use Rattle.jwords.specs.Alphabet.{quote, colon, first, is_letter, is_number_start, is_inflection}
 use Rattle.jwords.specs.Names.{IsName}
-use Rattle.jwords.specs.Listed.{is_symbol, is_constant, IsInflectedWord}
+use Rattle.jwords.specs.Listed.{is_listed, is_constant, IsInflectedWord}
 use Rattle.jwords.specs.Texts.{IsQuoted}
 use Rattle.jwords.specs.Runs.{name_length, inflected_length, run_length, symbol_length, IsNoNumber, BeginsNumber, IsList}
 use Rattle.jwords.specs.Cuts.{word_of, IsOutcome}
@@ -67,7 +67,7 @@ abbrev pub FindsSymbol : ℕ → List ℕ → Result Word WordFault → Type 0
 FindsSymbol at rest found =
     MatchBool (is_brace_pair rest)
     (found ≡ Ok (word_of Graphic at 2))
-    (Judged found (is_symbol (take (symbol_length rest) rest) ≡ true) (word_of Graphic at (symbol_length rest)) (Spelling at))
+    (Judged found (is_listed (take (symbol_length rest) rest) ≡ true) (word_of Graphic at (symbol_length rest)) (Spelling at))
 
 -- the word, or the fault, that the rest of a text from a place on begins with
 abbrev pub Finds : ℕ → List ℕ → Result Word WordFault → Type 0

@@ -11,7 +11,7 @@ use crate::alphabet::{
     COLON, QUOTE, byte_at, inflection_length, is_inflection, is_letter, is_number_start,
     name_length, run_length,
 };
-use crate::listed::{is_constant, is_inflected_word, is_symbol};
+use crate::listed::{is_constant, is_inflected_word, is_listed};
 use crate::naming::is_name;
 use crate::quoting::quoted_length;
 use crate::running::{is_number, number_list_length};
@@ -97,7 +97,7 @@ fn find_symbol(at: u32, rest: &[u8]) -> Result<Word, WordFault>
         return Ok(word_from(WordKind::Graphic, at, 2));
     }
     let size = symbol_length(rest);
-    judged(is_symbol(&rest[..size]), WordKind::Graphic, at, size)
+    judged(is_listed(&rest[..size]), WordKind::Graphic, at, size)
 }
 
 /// How many bytes a symbol takes with all points and colons behind it.

@@ -7,18 +7,12 @@ ghost use Rattle.jwords.specs.Listed as listed;
 
 use crate::alphabet::{COLON, POINT, UNDERSCORE, is_digit};
 use crate::naming::is_plain;
+use jdata::Primitive;
 
-/// The symbols that are words alone.
-const ALONE: &[u8] = b"=<>+*-%^|,;#!$[]{/\\~}\"@&:()";
-/// The symbols that are words with a point behind them.
-const WITH_POINT: &[u8] = b"=<>+*-|~,;#{}/\\&";
-/// The symbols that are words with a colon behind them.
-const WITH_COLON: &[u8] = b"=<>+*-%^|~,;#/\\[{}\"@&!:";
-
-const LONGER_SYMBOLS: [&[u8]; 2] = [b"{::", b"&.:"];
-
-const LETTER_WORDS: [&[u8]; 9] = [
-    b"e.", b"i.", b"i:", b"I.", b"L.", b"T.", b"t.", b"a.", b"a:",
+/// The adverbs, conjunctions and nouns, the copulas and the parentheses.
+const OTHER_WORDS: [&[u8]; 25] = [
+    b"/", b"/.", b"\\", b"\\.", b"~", b"}", b"\"", b"^:", b"@", b"@:", b"&", b"&:", b"&.", b"&.:",
+    b":", b"::", b";.", b"!:", b"t.", b"a.", b"a:", b"=.", b"=:", b"(", b")",
 ];
 
 const CONTROL_WORDS: [&[u8]; 17] = [
@@ -41,28 +35,12 @@ const CONTROL_WORDS: [&[u8]; 17] = [
     b"whilst.",
 ];
 
-/// Whether a symbol with its points and colons is a word.
-#[tactic(auto, using(crate::proofs::ListedWords::symbols))]
-pub fn is_symbol(word: &[u8]) -> bool
-    ensures { result ≡ listed.is_symbol word.now }
+/// Whether a word spells a verb, or is one of the others.
+#[tactic(auto, unfolding(crate::specs::Listed::is_listed))]
+pub fn is_listed(word: &[u8]) -> bool
+    ensures { result ≡ listed.is_listed word.now }
 {
-    match word {
-        [] => false,
-        [byte] => ALONE.contains(byte),
-        [byte, mark] => is_marked_symbol(*byte, *mark),
-        _ => is_one_of(word, &LONGER_SYMBOLS),
-    }
-}
-
-/// Whether a symbol with one point or colon is a word.
-fn is_marked_symbol(byte: u8, mark: u8) -> bool
-    ensures { result ≡ listed.is_marked_symbol byte mark }
-{
-    match mark {
-        POINT => WITH_POINT.contains(&byte),
-        COLON => WITH_COLON.contains(&byte),
-        _ => false,
-    }
+    Primitive::of(word).is_some() || is_one_of(word, &OTHER_WORDS)
 }
 
 /// Whether a digit, perhaps behind a sign, and a colon are a constant verb.
@@ -93,13 +71,7 @@ fn is_signed_constant(sign: u8, digit: u8, mark: u8) -> bool
 pub fn is_inflected_word(word: &[u8]) -> bool
     ensures { IsTrue result ↔ listed.IsInflectedWord word.now }
 {
-    is_letter_word(word) || is_control_word(word) || is_named_loop(word)
-}
-
-fn is_letter_word(word: &[u8]) -> bool
-    ensures { result ≡ listed.is_one_of listed.letter_words word.now }
-{
-    is_one_of(word, &LETTER_WORDS)
+    is_listed(word) || is_control_word(word) || is_named_loop(word)
 }
 
 fn is_control_word(word: &[u8]) -> bool

@@ -1,5 +1,5 @@
 //! Sums, products, quotients, powers, roots and choices over the numbers of the tables.
-#![tactic(auto, unfolding(crate::specs::Monads::is_scalar_monad, crate::specs::Dyads::is_scalar_dyad))]
+#![tactic(auto)]
 
 use super::{MAX, MIN, N, check_two};
 use jdata::Primitive;

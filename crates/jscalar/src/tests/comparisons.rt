@@ -1,5 +1,5 @@
 //! Comparisons, divisors and truths over the numbers of the tables.
-#![tactic(auto, unfolding(crate::specs::Monads::is_scalar_monad, crate::specs::Dyads::is_scalar_dyad))]
+#![tactic(auto)]
 
 use super::{D, MAX, MIN, N, check_two};
 use jdata::Primitive;

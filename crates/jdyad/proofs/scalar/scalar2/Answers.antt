@@ -1,9 +1,11 @@
+use Rattle.std.proofs.Common.{sym, ◌∙◌, subst}
+use Rattle.jarray.specs.Placed.{Gives}
+use Rattle.jdyad.proofs.Wholes.{listed, unlisted}
 use Rattle.jdyad.proofs.scalar.scalar2.Goals as goal
-use Rattle.jdyad.proofs.scalar.scalar2.Goals.{in_default-via-in-Some+in_default, in_default-via-in_default}
-use Rattle.jdyad.proofs.Wholes.{none_alone}
 
-pub returns-in_default-clause-alone : goal.returns-in_default-clause-alone
-returns-in_default-clause-alone c = λ m n x y e. elim c.in_default.branch [
-  | in_default-via-in-Some+in_default w ↦ none_alone _ _ n w.in_default.is-1 c.integer-2.ensures.none y
-  | in_default-via-in_default w ↦ none_alone _ _ m w.in_default.is-0 c.integer.ensures.none x
-]
+pub returns-then-is_scalar-clause-answer : goal.returns-then-is_scalar-clause-answer
+returns-then-is_scalar-clause-answer c =
+    subst (λ r. Gives r c.of_scalar.result) (sym (listed c.args.verb c.args.x.noun c.args.y.noun (sym c.is_scalar.ensures ∙ c.if-is_scalar.true))) c.of_scalar.ensures.answer
+
+pub returns-else-is_scalar-clause-answer : goal.returns-else-is_scalar-clause-answer
+returns-else-is_scalar-clause-answer c = unlisted c.args.verb c.args.x.noun c.args.y.noun (sym c.is_scalar.ensures ∙ c.if-is_scalar.false)

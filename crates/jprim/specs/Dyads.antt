@@ -1,0 +1,61 @@
+-- The table of primitives, of two arguments (NuVoc, "Vocabulary"): what each gives.
+use Rattle.std.specs.Prelude.{ℕ, ◌&&◌, not, if◌then◌else◌, ℤ, Option, Some, None, Result, Ok, Err, List}
+use Rattle.jdata.specs.Noun.{shape, atoms, product}
+use Rattle.jdata.specs.declared.fault.Fault.{Fault}
+use Rattle.jdata.specs.declared.fault.Fault.TheVariants.{Nonce, Domain, Length}
+use Rattle.jdata.specs.declared.primitive.Primitive.{Primitive}
+use Rattle.jdata.specs.declared.primitive.Primitive.TheVariants.{Equal, TildeColon}
+use Rattle.jdata.specs.declared.noun.Noun.{Noun}
+use Rattle.jdata.specs.declared.noun.Atom.{Atom, Atom-F, out-Atom}
+use Rattle.jdata.specs.declared.noun.Atom.TheOpen as one
+use Rattle.jarray.specs.Matches.{equal_atoms}
+use Rattle.jarray.specs.Numbers.{is_integers, integers}
+use Rattle.jscalar.specs.Dyads.{dyad_on}
+use Rattle.jscalar.specs.Places.{by_place}
+use Rattle.jscalar.specs.Truths.{truth}
+use Rattle.jshape.specs.Agreement.{longer, repeated}
+use Rattle.jdyad.specs.Dyads.{atom_for}
+
+-- a valence that is left out; what the verb gives of two integers; or what it gives of two atoms of any kind
+pub data Row : Type 0 where
+  Absent : Row
+  EachInteger : (ℤ → ℤ → Result ℤ Fault) → Row
+  EachAtom : (Atom → Atom → Result ℤ Fault) → Row
+
+abbrev pub on_integers : Option (ℤ → ℤ → Result ℤ Fault) → Row
+on_integers (Some meant) = EachInteger meant
+on_integers None = Absent
+
+abbrev pub if_equal : Atom → Atom → Result ℤ Fault
+if_equal a b = Ok (truth (equal_atoms a b))
+
+abbrev pub if_unequal : Atom → Atom → Result ℤ Fault
+if_unequal a b = Ok (truth (not (equal_atoms a b)))
+
+-- the two that compare atoms of any kind, and the other scalar dyads; the others aren't built
+unfoldable pub dyad_of : Primitive → Row
+dyad_of Equal = EachAtom if_equal
+dyad_of TildeColon = EachAtom if_unequal
+dyad_of verb = on_integers (dyad_on verb)
+
+-- what a meaning on integers gives of two atoms
+abbrev pub of_integers : (ℤ → ℤ → Result ℤ Fault) → Atom-F Atom Noun → Atom-F Atom Noun → Result ℤ Fault
+of_integers meant (one.Int x) (one.Int y) = meant x y
+of_integers meant left right = Err Domain
+
+-- atom by atom in ravel order of the whole, where the shapes agree on one: each atom of the argument with the shorter
+-- shape serves a cell of the other
+abbrev pub of_whole : (Atom → Atom → Result ℤ Fault) → Noun → Noun → Option (List ℕ) → Result Noun Fault
+of_whole meant x y None = Err Length
+of_whole meant x y (Some whole) =
+    integers whole (by_place (λ j. meant (atom_for (atoms x) (repeated (shape x) whole) j) (atom_for (atoms y) (repeated (shape y) whole) j)) (product whole))
+
+abbrev pub each_pair : (Atom → Atom → Result ℤ Fault) → Noun → Noun → Result Noun Fault
+each_pair meant x y = of_whole meant x y (longer (shape x) (shape y))
+
+-- what a row gives of two arrays
+unfoldable pub given : Row → Noun → Noun → Result Noun Fault
+given Absent x y = Err Nonce
+given (EachInteger meant) x y =
+    if is_integers x && is_integers y then each_pair (λ a b. of_integers meant (out-Atom a) (out-Atom b)) x y else Err Domain
+given (EachAtom meant) x y = each_pair meant x y
