@@ -1,7 +1,7 @@
 //! The outside of a session: where a script comes from, and where its prints go.
 //!
 //! A session reads by [`Source`] and writes by [`Sink`]. Each comes in two kinds: in memory, whose bytes contracts
-//! know and whose calls can be made to fail, and over std's readers and writers, of whose bytes nothing is claimed.
+//! know and whose calls can be made to fail, and over std's readers and writers, of whose bytes is told what those tell.
 #![tactic(auto)]
 
 mod counts;

@@ -1,5 +1,6 @@
 //! Prints kept in memory, some of whose writes can be made to fail.
-ghost use Rattle.std.specs.Prelude.{◌≡◌, ◌≤◌, ◌<◌, ◌+◌, ◌-◌, ◌^◌, ◌↔◌, ℕ, List, [], true, min, IsTrue};
+ghost use Rattle.std.specs.Prelude.{◌≡◌, ◌≤◌, ◌<◌, ◌↔◌, [], true, Some, IsTrue};
+ghost use Rattle.jio.specs.Counts.{counted};
 ghost use Rattle.jio.specs.Memory.{NextFails};
 
 use crate::sink::{Sent, Sink};
@@ -17,12 +18,12 @@ pub struct MemSink {
 }
 
 impl Model for MemSink {
-    ghost use Rattle.std.specs.Prelude.{◌≤◌};
-    ghost use Rattle.jio.specs.Memory.{Paper};
+    ghost use Rattle.std.specs.Prelude.{◌≤◌, Some};
+    ghost use Rattle.jio.specs.Memory.{MemoryWrites};
 
-    ghost Value = { Paper };
+    ghost Value = { MemoryWrites };
 
-    ghost view = { λ s. record { taken = s.taken.items; failing = s.failing.items; calls = s.calls; faults = s.faults; whole = s.whole } };
+    ghost view = { λ s. record { writes = record { took = Some s.taken.items; faults = s.faults; whole = s.whole; calls = s.calls }; failing = s.failing.items } };
 
     ghost invariant = { λ s. s.faults ≤ s.calls };
 }
@@ -30,7 +31,7 @@ impl Model for MemSink {
 impl MemSink {
     /// A sink that took nothing yet. The calls whose numbers, from 1, are in `failing` fail.
     pub fn new(alloc: Global, failing: Vec<u64>) -> MemSink
-        ensures fresh { (result.taken ≡ []) × (result.calls ≡ 0) × (result.faults ≡ 0) × (result.whole ≡ true) }
+        ensures fresh { result.writes ≡ record { took = Some []; faults = 0; whole = true; calls = 0 } }
         ensures failing { result.failing ≡ failing.items }
     {
         MemSink {
@@ -44,18 +45,16 @@ impl MemSink {
 
     /// The bytes that it took.
     pub fn taken(&self) -> &[u8]
-        ensures { result.now ≡ self.now.taken }
+        ensures { self.now.writes.took ≡ Some result.now }
     {
         &self.taken
     }
 
     // Counts a call, and says whether it fails.
     fn begin_call(&mut self) -> bool
-        ensures fails { IsTrue result ↔ NextFails self.old.calls self.old.failing }
-        ensures same { (self.new.taken ≡ self.old.taken) × (self.new.whole ≡ self.old.whole) × (self.new.failing ≡ self.old.failing) }
-        ensures faults { self.new.faults ≡ self.old.faults }
-        ensures calls { self.new.calls ≡ min (self.old.calls + 1) (2 ^ 64 - 1) }
-        ensures room { IsTrue result → self.new.faults < self.new.calls }
+        ensures fails { IsTrue result ↔ NextFails self.old.writes.calls self.old.failing }
+        ensures same { self.new ≡ record self.old { writes = record self.old.writes { calls = counted self.old.writes.calls } } }
+        ensures room { IsTrue result → self.new.writes.faults < self.new.writes.calls }
     {
         if self.calls == u64::MAX {
             return false;
@@ -66,32 +65,25 @@ impl MemSink {
 }
 
 impl Sink for MemSink {
-    ghost use Rattle.std.specs.Prelude.{◌≡◌, ◌≤◌, ◌+◌, ◌-◌, ◌^◌, ◌↔◌, min, false, Some};
-    ghost use Rattle.std.specs.Io.KnownBytes.{Appends};
-    ghost use Rattle.jio.specs.Sink.{OnAll, OnNoMemory, OnFailed, TookPart};
-    ghost use Rattle.jio.specs.Counts.{Rises};
+    ghost use Rattle.std.specs.Prelude.{◌≡◌, ◌≤◌, ◌↔◌};
+    ghost use Rattle.jio.specs.Counts.{counted};
     ghost use Rattle.jio.specs.Memory.{NextFails};
+    ghost use Rattle.jio.specs.Sink.{TookAll, TookNothing, FailedToWrite, OnAll, OnNoMemory, OnFailed};
     ghost use Rattle.jio.specs.declared.sink.Sent.TheVariants as sent;
 
-    ghost took = { λ s. Some s.taken };
-
-    ghost faults = { λ s. s.faults };
-
-    ghost whole = { λ s. s.whole };
+    ghost writes = { λ s. s.writes };
 
     fn write(&mut self, piece: &[u8]) -> Sent
-        ensures all { OnAll result (Appends (Some self.old.taken) (Some self.new.taken) piece.now
-            × (self.new.faults ≡ self.old.faults) × (self.new.whole ≡ self.old.whole)) }
-        ensures no_memory { OnNoMemory result ((Some self.new.taken ≡ Some self.old.taken) × (self.new.whole ≡ false)) }
-        ensures failed { OnFailed result (TookPart (Some self.old.taken) (Some self.new.taken) piece.now
-            × Rises self.old.faults self.new.faults × (self.new.whole ≡ false)) }
-        ensures count { self.old.faults ≤ self.new.faults }
+        ensures all { OnAll result (TookAll self.old.writes piece.now self.new.writes) }
+        ensures no_memory { OnNoMemory result (TookNothing self.old.writes self.new.writes) }
+        ensures failed { OnFailed result (FailedToWrite self.old.writes piece.now self.new.writes) }
+        ensures count { self.old.writes.faults ≤ self.new.writes.faults }
+        ensures calls { self.new.writes.calls ≡ counted self.old.writes.calls }
 
         // Just the calls of the list fail, and a failing call takes nothing.
-        ensures fails { (result ≡ sent.Failed) ↔ NextFails self.old.calls self.old.failing }
-        ensures nothing { result ≡ sent.Failed → self.new.taken ≡ self.old.taken }
+        ensures fails { (result ≡ sent.Failed) ↔ NextFails self.old.writes.calls self.old.failing }
+        ensures nothing { result ≡ sent.Failed → self.new.writes.took ≡ self.old.writes.took }
         ensures list { self.new.failing ≡ self.old.failing }
-        ensures calls { self.new.calls ≡ min (self.old.calls + 1) (2 ^ 64 - 1) }
     {
         if self.begin_call() {
             self.faults += 1;

@@ -1,11 +1,9 @@
 //! A script in memory, some of whose reads can be made to fail.
-ghost use Rattle.std.specs.Prelude.{◌≡◌, ◌≤◌, ◌<◌, ◌+◌, ◌-◌, ◌^◌, ◌↔◌, ℕ, List, length, take, drop, min, IsTrue};
-ghost use Rattle.jio.specs.Source.{GaveBytes, GaveNothing, OnBytes, OnEnd, OnFailed};
-ghost use Rattle.jio.specs.Counts.{Rises};
-ghost use Rattle.jio.specs.declared.source.Got.TheVariants as got;
+ghost use Rattle.std.specs.Prelude.{◌≡◌, ◌≤◌, ◌<◌, ◌+◌, ◌↔◌, length, take, min, Some, None, IsTrue};
+ghost use Rattle.jio.specs.Counts.{counted};
 ghost use Rattle.jio.specs.Memory.{NextFails};
-ghost use Rattle.std.specs.Io.KnownBytes.{IsAtEnd};
 
+use crate::counts::first_at;
 use crate::source::{Got, Source};
 use std::marker::Model;
 
@@ -18,15 +16,23 @@ pub struct MemSource {
     failing: Vec<u64>,
     calls: u64,
     faults: u64,
+    // how many bytes had been given at the first fault, and at the first end
+    broken: Option<u64>,
+    ended: Option<u64>,
 }
 
 impl Model for MemSource {
-    ghost use Rattle.std.specs.Prelude.{◌≤◌, length, drop};
-    ghost use Rattle.jio.specs.Memory.{Script};
+    ghost use Rattle.std.specs.Prelude.{◌≤◌, length, drop, Some};
+    ghost use Rattle.jio.specs.Memory.{MemoryReads};
 
-    ghost Value = { Script };
+    ghost Value = { MemoryReads };
 
-    ghost view = { λ s. record { left = drop s.at s.bytes.items; given = s.at; most = s.most; failing = s.failing.items; calls = s.calls; faults = s.faults } };
+    ghost view = { λ s. record {
+      reads = record { left = Some (drop s.at s.bytes.items); given = s.at; faults = s.faults; broken = s.broken; ended = s.ended };
+      most = s.most;
+      failing = s.failing.items;
+      calls = s.calls;
+    } };
 
     ghost invariant = { λ s. (s.at ≤ length s.bytes.items) × (1 ≤ s.most) × (s.faults ≤ s.calls) };
 }
@@ -35,9 +41,8 @@ impl MemSource {
     /// A source of these bytes, at most `most` of them a call. The calls whose numbers, from 1, are in `failing` fail.
     pub fn new(bytes: Vec<u8>, most: usize, failing: Vec<u64>) -> MemSource
         requires { 1 ≤ most }
-        ensures left { result.left ≡ bytes.items }
-        ensures fresh { (result.given ≡ 0) × (result.calls ≡ 0) × (result.faults ≡ 0) }
-        ensures kept { (result.most ≡ most) × (result.failing ≡ failing.items) }
+        ensures fresh { result.reads ≡ record { left = Some bytes.items; given = 0; faults = 0; broken = None; ended = None } }
+        ensures kept { (result.most ≡ most) × (result.failing ≡ failing.items) × (result.calls ≡ 0) }
     {
         MemSource {
             bytes,
@@ -46,12 +51,14 @@ impl MemSource {
             failing,
             calls: 0,
             faults: 0,
+            broken: None,
+            ended: None,
         }
     }
 
     /// The bytes that are left.
     pub fn left(&self) -> &[u8]
-        ensures { result.now ≡ self.now.left }
+        ensures { self.now.reads.left ≡ Some result.now }
     {
         &self.bytes[self.at..]
     }
@@ -59,10 +66,8 @@ impl MemSource {
     // Counts a call, and says whether it fails.
     fn begin_call(&mut self) -> bool
         ensures fails { IsTrue result ↔ NextFails self.old.calls self.old.failing }
-        ensures same { (self.new.left ≡ self.old.left) × (self.new.given ≡ self.old.given) × (self.new.most ≡ self.old.most) × (self.new.failing ≡ self.old.failing) }
-        ensures faults { self.new.faults ≡ self.old.faults }
-        ensures calls { self.new.calls ≡ min (self.old.calls + 1) (2 ^ 64 - 1) }
-        ensures room { IsTrue result → self.new.faults < self.new.calls }
+        ensures same { self.new ≡ record self.old { calls = counted self.old.calls } }
+        ensures room { IsTrue result → self.new.reads.faults < self.new.calls }
     {
         if self.calls == u64::MAX {
             return false;
@@ -83,41 +88,35 @@ fn copy_front(from: &[u8], most: usize, into: &mut [u8]) -> usize
 }
 
 impl Source for MemSource {
-    ghost use Rattle.std.specs.Prelude.{◌≡◌, ◌≤◌, ◌<◌, ◌+◌, ◌-◌, ◌^◌, ◌↔◌, min, length, take, Some};
-    ghost use Rattle.std.specs.Io.KnownBytes.{IsAtEnd};
-    ghost use Rattle.jio.specs.Source.{GaveBytes, GaveNothing, OnBytes, OnEnd, OnFailed};
-    ghost use Rattle.jio.specs.Counts.{Rises};
+    ghost use Rattle.std.specs.Prelude.{◌≡◌, ◌≤◌, ◌<◌, ◌↔◌, length, take};
+    ghost use Rattle.jio.specs.Counts.{counted};
+    ghost use Rattle.jio.specs.Source.{GaveBytes, MetTheEnd, FailedToRead, OnBytes, OnEnd, OnFailed};
     ghost use Rattle.jio.specs.Memory.{NextFails};
     ghost use Rattle.jio.specs.declared.source.Got.TheVariants as got;
 
-    ghost left = { λ s. Some s.left };
-
-    ghost given = { λ s. s.given };
-
-    ghost faults = { λ s. s.faults };
+    ghost reads = { λ s. s.reads };
 
     fn read(&mut self, into: &mut [u8]) -> Got
         requires { 0 < length into.old }
-        ensures bytes { OnBytes result (λ n. (1 ≤ n) × (n ≤ length into.new)
-            × GaveBytes (Some self.old.left) (Some self.new.left) self.old.given self.new.given (take n into.new)) }
-        ensures end { OnEnd result (GaveNothing (Some self.old.left) (Some self.new.left) self.old.given self.new.given
-            × IsAtEnd (Some self.new.left)) }
-        ensures failed { OnFailed result (GaveNothing (Some self.old.left) (Some self.new.left) self.old.given self.new.given
-            × Rises self.old.faults self.new.faults) }
-        ensures count { self.old.faults ≤ self.new.faults }
+        ensures bytes { OnBytes result (λ n. (1 ≤ n) × (n ≤ length into.new) × GaveBytes self.old.reads (take n into.new) self.new.reads) }
+        ensures end { OnEnd result (MetTheEnd self.old.reads self.new.reads) }
+        ensures failed { OnFailed result (FailedToRead self.old.reads self.new.reads) }
+        ensures count { self.old.reads.faults ≤ self.new.reads.faults }
 
         // Just the calls of the list fail, and no call gives more than it may.
         ensures fails { (result ≡ got.Failed) ↔ NextFails self.old.calls self.old.failing }
         ensures most { OnBytes result (λ n. n ≤ self.old.most) }
         ensures list { (self.new.failing ≡ self.old.failing) × (self.new.most ≡ self.old.most) }
-        ensures calls { self.new.calls ≡ min (self.old.calls + 1) (2 ^ 64 - 1) }
+        ensures calls { self.new.calls ≡ counted self.old.calls }
     {
         if self.begin_call() {
             self.faults += 1;
+            self.broken = first_at(self.broken, self.at as u64);
             return Got::Failed;
         }
         let count = copy_front(self.left(), self.most, into);
         if count == 0 {
+            self.ended = first_at(self.ended, self.at as u64);
             return Got::End;
         }
         self.at += count;

@@ -1,8 +1,7 @@
 //! Where prints go.
-ghost use Rattle.std.specs.Prelude.{◌≡◌, ◌≤◌, ℕ, Bool, false, List, Option};
-ghost use Rattle.jio.specs.Sink.{OnAll, OnNoMemory, OnFailed, TookPart};
-ghost use Rattle.jio.specs.Counts.{Rises};
-ghost use Rattle.std.specs.Io.KnownBytes.{Appends};
+ghost use Rattle.std.specs.Prelude.{◌≡◌, ◌≤◌};
+ghost use Rattle.jio.specs.Counts.{counted};
+ghost use Rattle.jio.specs.Sink.{Writes, TookAll, TookNothing, FailedToWrite, OnAll, OnNoMemory, OnFailed};
 
 /// What became of one write.
 #[derive(Clone, Copy, Debug, PartialEq, Eq)]
@@ -17,21 +16,15 @@ pub enum Sent {
 
 /// What a session prints, written piece by piece.
 pub trait Sink {
-    /// The bytes that it took so far, where the sink tells them.
-    ghost took: { Self → Option (List ℕ) };
+    /// What was taken where the sink tells it, how many writes there were, and whether each was answered
+    /// [`Sent::All`].
+    ghost writes: { Self → Writes };
 
-    /// How many of its writes failed so far.
-    ghost faults: { Self → ℕ };
-
-    /// Whether each write so far was answered [`Sent::All`].
-    ghost whole: { Self → Bool };
-
-    /// Writes a piece. A fault is answered only where the count of faults rose.
+    /// Writes a piece. A fault is answered only where the count of faults rose, and nothing else raises it.
     fn write(&mut self, piece: &[u8]) -> Sent
-        ensures all { OnAll result (Appends (took self.old) (took self.new) piece.now
-            × (faults self.new ≡ faults self.old) × (whole self.new ≡ whole self.old)) }
-        ensures no_memory { OnNoMemory result ((took self.new ≡ took self.old) × (whole self.new ≡ false)) }
-        ensures failed { OnFailed result (TookPart (took self.old) (took self.new) piece.now
-            × Rises (faults self.old) (faults self.new) × (whole self.new ≡ false)) }
-        ensures count { faults self.old ≤ faults self.new };
+        ensures all { OnAll result (TookAll (writes self.old) piece.now (writes self.new)) }
+        ensures no_memory { OnNoMemory result (TookNothing (writes self.old) (writes self.new)) }
+        ensures failed { OnFailed result (FailedToWrite (writes self.old) piece.now (writes self.new)) }
+        ensures count { (writes self.old).faults ≤ (writes self.new).faults }
+        ensures calls { (writes self.new).calls ≡ counted (writes self.old).calls };
 }

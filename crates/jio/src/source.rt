@@ -1,8 +1,6 @@
 //! Where a script comes from.
-ghost use Rattle.std.specs.Prelude.{◌≡◌, ◌≤◌, ◌<◌, ℕ, List, Option, length, take};
-ghost use Rattle.jio.specs.Source.{GaveBytes, GaveNothing, OnBytes, OnEnd, OnFailed};
-ghost use Rattle.jio.specs.Counts.{Rises};
-ghost use Rattle.std.specs.Io.KnownBytes.{IsAtEnd};
+ghost use Rattle.std.specs.Prelude.{◌≤◌, ◌<◌, length, take};
+ghost use Rattle.jio.specs.Source.{Reads, GaveBytes, MetTheEnd, FailedToRead, OnBytes, OnEnd, OnFailed};
 
 /// What one read gave.
 #[derive(Clone, Copy, Debug, PartialEq, Eq)]
@@ -17,24 +15,15 @@ pub enum Got {
 
 /// A script, read piece by piece.
 pub trait Source {
-    /// The bytes that are left, where the source tells them.
-    ghost left: { Self → Option (List ℕ) };
-
-    /// How many bytes it gave so far.
-    ghost given: { Self → ℕ };
-
-    /// How many of its reads failed so far.
-    ghost faults: { Self → ℕ };
+    /// What is left where the source tells it, what was given, and which reads failed or met the end.
+    ghost reads: { Self → Reads };
 
     /// Reads the next bytes into the front of a buffer that isn't empty. An end or a fault leaves what is left as it
-    /// was, and a fault is answered only where the count of faults rose.
+    /// was. A fault is answered only where the count of faults rose, and nothing else raises it.
     fn read(&mut self, into: &mut [u8]) -> Got
         requires { 0 < length into.old }
-        ensures bytes { OnBytes result (λ n. (1 ≤ n) × (n ≤ length into.new)
-            × GaveBytes (left self.old) (left self.new) (given self.old) (given self.new) (take n into.new)) }
-        ensures end { OnEnd result (GaveNothing (left self.old) (left self.new) (given self.old) (given self.new)
-            × IsAtEnd (left self.new)) }
-        ensures failed { OnFailed result (GaveNothing (left self.old) (left self.new) (given self.old) (given self.new)
-            × Rises (faults self.old) (faults self.new)) }
-        ensures count { faults self.old ≤ faults self.new };
+        ensures bytes { OnBytes result (λ n. (1 ≤ n) × (n ≤ length into.new) × GaveBytes (reads self.old) (take n into.new) (reads self.new)) }
+        ensures end { OnEnd result (MetTheEnd (reads self.old) (reads self.new)) }
+        ensures failed { OnFailed result (FailedToRead (reads self.old) (reads self.new)) }
+        ensures count { (reads self.old).faults ≤ (reads self.new).faults };
 }

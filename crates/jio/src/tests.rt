@@ -43,6 +43,26 @@ impl Write for Short<'_> {
     }
 }
 
+// A writer whose bytes are there once they are flushed.
+#[derive(Drop)]
+struct Late<'a> {
+    held: Vec<u8>,
+    there: &'a mut Vec<u8>,
+}
+
+impl Write for Late<'_> {
+    fn write(&mut self, buf: &[u8]) -> io::Result<usize> {
+        self.held.extend_from_slice(buf)?;
+        Ok(buf.len())
+    }
+
+    fn flush(&mut self) -> io::Result<()> {
+        self.there.extend_from_slice(&self.held)?;
+        self.held.clear();
+        Ok(())
+    }
+}
+
 #[test]
 fn a_script_in_memory(rt: HostRuntime) -> Result<(), Fail> {
     let bytes = vec![in rt.alloc(); b'a', b'b', b'c']?;
@@ -88,4 +108,17 @@ fn a_writer_of_std(rt: HostRuntime) {
     assert_eq!(rt; sink.write(b""), Sent::All);
     assert_eq!(rt; sink.write(b"d"), Sent::Failed);
     assert_eq!(rt; taken.as_slice(), b"abc".as_slice());
+}
+
+// No clause of std's writers says what a flush does.
+#[test]
+fn each_piece_is_flushed(rt: HostRuntime) {
+    let mut there = Vec::new(rt.alloc());
+    let mut sink = StdSink::new(Late {
+        held: Vec::new(rt.alloc()),
+        there: &mut there,
+    });
+    assert_eq!(rt; sink.write(b"abc"), Sent::All);
+    drop(sink);
+    assert_eq!(rt; there.as_slice(), b"abc".as_slice());
 }

@@ -10,6 +10,6 @@ first_of (Some first) cause = inr (first, refl, refl)
 
 pub closed_first : (d d' : Kept) (cause : Cause) → d' ≡ closed_by d cause → ClosedWith Refuses d d' cause
 closed_first d d' cause h = elim (first_of d.closed cause) [
-  | inl now ↦ inl (ap (λ (k : Kept). k.closed) h ∙ now)
-  | inr before ↦ inr (before.0, before.1, ap (λ (k : Kept). k.closed) h ∙ before.2)
+  | inl now ↦ inl (λ who asked. ap (λ (k : Kept). k.closed) h ∙ now)
+  | inr before ↦ inr (before.0, λ who asked. before.1, λ who asked. ap (λ (k : Kept). k.closed) h ∙ before.2)
 ]

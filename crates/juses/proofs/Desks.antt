@@ -8,8 +8,9 @@ use Rattle.std.specs.Ordering.{is_eq, match_ordering, nat_cmp}
 use Rattle.std.proofs.lemmas.List.{drop-append-le}
 use Rattle.std.proofs.lemmas.Map.Lookups.{exact_bytes}
 use Rattle.jterm.specs.declared.term.Term.{Term}
-use Rattle.juses.specs.Keys.{Key, NameIn, NamesOf, Locales, same, base_locale, z_locale, is_among, changed_by}
-use Rattle.juses.specs.Desk.{State, class_of, first, first_at, named, found, left_at, with_locale}
+use Rattle.juses.specs.Keys.{Key, NameIn, NamesOf, Locales, same, base_locale, z_locale}
+use Rattle.juses.specs.Desk.{State, class_of, first, first_at, named, first_of, moved, with_locale}
+use Rattle.juses.specs.Entries.{entry}
 use Rattle.juses.specs.Standing.{Kept, LocaleTable, NameTable, names_in, kept_at, Stands, Answers}
 use Rattle.juses.specs.Keeping.{with_value, first_tables, kept_reply, kept_after}
 use Rattle.juses.specs.declared.uses.Use.{Use}
@@ -30,10 +31,6 @@ swapped true true apart x y w = absurd (apart refl refl)
 swapped true false apart x y w = refl
 swapped false true apart x y w = refl
 swapped false false apart x y w = refl
-
-or_false : (b : Bool) → (b || false) ≡ b
-or_false true = refl
-or_false false = refl
 
 module _ {X : Type 0} where
   -- a table with another entry, at a key
@@ -81,22 +78,23 @@ module _ (l : LocaleTable) (p n : List ℕ) (v : Term) where
       by true = refl
       by false = refl
 
-  at_name : (q m : List ℕ) (b : Bool) → same p q ≡ b → cond ((b && same n m) || false) (Some v) (lookup (same m) (names_in l q)) ≡ lookup (same m) (cond b changed (names_in l q))
+  at_name : (q m : List ℕ) (b : Bool) → same p q ≡ b → cond (b && same n m) (Some v) (lookup (same m) (names_in l q)) ≡ lookup (same m) (cond b changed (names_in l q))
   at_name q m true h =
-      ap (λ b. cond b (Some v) (lookup (same m) (names_in l q))) (or_false (same n m))
-      ∙ (ap (λ r. cond (same n m) (Some v) (lookup (same m) (names_in l r))) (sym (same_is p q h)) ∙ sym (lookup-insert_entry m n v (names_in l p)))
+      ap (λ r. cond (same n m) (Some v) (lookup (same m) (names_in l r))) (sym (same_is p q h)) ∙ sym (lookup-insert_entry m n v (names_in l p))
   at_name q m false h = refl
 
-  at_names : (q : List ℕ) (b : Bool) → same p q ≡ b → cond (b || false) (insert_entry (slice_cmp nat_cmp) (map (λ e. (e.0, class_of e.1)) (names_in l q)) n (class_of v)) (map (λ e. (e.0, class_of e.1)) (names_in l q)) ≡ map (λ e. (e.0, class_of e.1)) (cond b changed (names_in l q))
+  at_names : (q : List ℕ) (b : Bool) → same p q ≡ b → cond b (insert_entry (slice_cmp nat_cmp) (map (λ e. (e.0, class_of e.1)) (names_in l q)) n (class_of v)) (map (λ e. (e.0, class_of e.1)) (names_in l q)) ≡ map (λ e. (e.0, class_of e.1)) (cond b changed (names_in l q))
   at_names q true h =
       ap (λ r. insert_entry (slice_cmp nat_cmp) (map (λ e. (e.0, class_of e.1)) (names_in l r)) n (class_of v)) (sym (same_is p q h))
       ∙ sym (map-insert_entry class_of (names_in l p) n v)
   at_names q false h = refl
 
-  written : (k : Key) (r : Reply) → cond (is_among (changed_by (Write p n v) r) k) (left_at k (Write p n v) (kept_at l k)) (kept_at l k) ≡ kept_at (with_value l p n v) k
-  written (NameIn q m) r = at_name q m (same p q) refl ∙ ap (lookup (same m)) (sym (names-with_value q))
-  written (NamesOf q) r = at_names q (same p q) refl ∙ ap (map (λ e. (e.0, class_of e.1))) (sym (names-with_value q))
-  written Locales r = sym (keys-insert_entry l p changed)
+  written : (s : State) (who : List ℕ) (thread : ℕ) (r : Reply) (k : Key) → s.at k ≡ kept_at l k → (moved s (entry who thread (Write p n v) r)).at k ≡ kept_at (with_value l p n v) k
+  written s who thread r (NameIn q m) h = ap (λ x. cond (same p q && same n m) (Some v) x) h ∙ (at_name q m (same p q) refl ∙ ap (lookup (same m)) (sym (names-with_value q)))
+  written s who thread r (NamesOf q) h =
+      ap (λ x. cond (same p q) (insert_entry (slice_cmp nat_cmp) x n (class_of v)) x) h
+      ∙ (at_names q (same p q) refl ∙ ap (map (λ e. (e.0, class_of e.1))) (sym (names-with_value q)))
+  written s who thread r Locales h = ap (with_locale p) h ∙ sym (keys-insert_entry l p changed)
 
 module _ (d : Kept) (s : State) (st : Stands d s) where
   silent : (bytes : List ℕ) → bytes ≡ [] → d.waiting ≡ drop d.handed (s.printed ++ bytes)
@@ -107,13 +105,13 @@ module _ (d : Kept) (s : State) (st : Stands d s) where
 
 pub answers : (d : Kept) (who : List ℕ) (thread : ℕ) (asked : Use) → Answers d who thread asked (kept_reply d asked) (kept_after d asked)
 answers d who thread (Read from name) s st = (
-  λ i. Some (named (found (st.at (NameIn from name) i) (st.at (NameIn z_locale name) i))),
+  λ i. Some (named (first_of (st.at (NameIn from name) i) (first_of (st.at (NameIn z_locale name) i) None))),
   record { at = st.at; waiting = silent d s st [] refl; handed = within d s st []; workers = st.workers },
 )
 answers d who thread (Write p n v) s st = (
   refl,
   record {
-    at = λ k. ap (λ x. cond (is_among (changed_by (Write p n v) (kept_reply d (Write p n v))) k) (left_at k (Write p n v) x) x) (st.at k) ∙ written d.locales p n v k (kept_reply d (Write p n v));
+    at = λ k. written d.locales p n v s who thread (kept_reply d (Write p n v)) k (st.at k);
     waiting = silent d s st [] refl;
     handed = within d s st [];
     workers = st.workers;

@@ -1,7 +1,7 @@
 pub mod Tables
 pub mod Desks
 pub mod Traces
-pub mod Programs
+pub mod Doing
 pub mod KeyFacts
 pub mod Runs
 pub mod Closing

@@ -1,46 +1,55 @@
 -- Histories of main alone: what was done in order is legal and faithful, and where the script ended it is the one-thread run.
-use Rattle.std.proofs.Common.{◌≡◌, refl, sym, ap, subst, ◌∙◌, ◌⊎◌, inl, inr, ℕ, List, [], ◌∷◌, ◌++◌, if◌then◌else◌, Option, Some, None, append_assoc, append-nil}
-use Rattle.juses.specs.Program.{Program, Return, Ask, next, Begins, Ends}
+use Rattle.std.proofs.Common.{◌≡◌, refl, sym, ap, subst, ◌∙◌, ◌⊎◌, inl, inr, ℕ, List, [], ◌∷◌, ◌++◌, if◌then◌else◌, Option, Some, None, Result, Ok, Err, ◌≢◌, append_assoc, append-nil}
+use Rattle.juses.specs.Program.{Program, Return, Ask, next, main_of}
 use Rattle.juses.specs.Keys.{same}
 use Rattle.juses.specs.Desk.{State, first, reply, moved, bytes_of}
 use Rattle.juses.specs.Entries.{entry}
+use Rattle.juses.specs.Events.{Events, NoMore, Did, told, Does, HaltsAt}
 use Rattle.juses.specs.Histories.{Once, after, Fits, Legal, own, replies, prints, Asks, Faithful, Complete, OneThread, OneThreadRun}
-use Rattle.juses.specs.OldestFirst.{taken, RepliedOn, AllOf, exchanges, written, onto, history}
+use Rattle.juses.specs.OldestFirst.{taken, Tells, written, onto, history}
+use Rattle.juses.specs.Told.{Told, Replied}
+use Rattle.juses.specs.Wishes.{Wish, use_of}
 use Rattle.juses.specs.declared.uses.Entry.{Entry}
 use Rattle.juses.specs.declared.uses.Use.{Use}
 use Rattle.juses.specs.declared.uses.Use.TheVariants.{Read, Write, Print}
 use Rattle.juses.specs.declared.uses.Reply.{Reply}
-use Rattle.juses.proofs.Traces.{begins_ended}
+use Rattle.juses.specs.declared.uses.Halt.{Halt}
+use Rattle.juses.specs.declared.uses.Halt.TheVariants as halts
 
 -- ---- in order, put on a history
 
 fits_main : (who : List ℕ) (thread : ℕ) → who ≡ [] → thread ≡ 0 → Fits who thread
 fits_main who thread main zeroth = subst (λ w. Fits w thread) (sym main) zeroth
 
-pub legal_onto : (workers : ℕ) (es h : List Entry) → Legal workers h → RepliedOn 0 (after workers h) es → AllOf [] es → Legal workers (onto es h)
+-- each entry is main's
+abbrev AllMain : List Told → Type 0
+AllMain [] = Unit {0}
+AllMain (Replied e ∷ xs) = (e.who ≡ []) × AllMain xs
+
+abbrev IsMain : List Entry → Type 0
+IsMain [] = Unit {0}
+IsMain (e ∷ h) = (e.who ≡ []) × IsMain h
+
+legal_onto : (workers : ℕ) (xs : List Told) (h : List Entry) → Legal workers h → Tells 0 (after workers h) xs → AllMain xs → Legal workers (onto xs h)
 legal_onto workers [] h l r m = l
-legal_onto workers (e ∷ es) h l r m = legal_onto workers es (e ∷ h) (l, fits_main e.who e.thread m.0 r.0, r.1) r.2 m.1
+legal_onto workers (Replied e ∷ xs) h l r m = legal_onto workers xs (e ∷ h) (l, fits_main e.who e.thread m.0 r.0.0, r.0.1) r.1 m.1
 
-pub after_onto : (workers : ℕ) (es h : List Entry) → after workers (onto es h) ≡ taken (after workers h) es
+pub after_onto : (workers : ℕ) (xs : List Told) (h : List Entry) → after workers (onto xs h) ≡ taken (after workers h) xs
 after_onto workers [] h = refl
-after_onto workers (e ∷ es) h = after_onto workers es (e ∷ h)
+after_onto workers (Replied e ∷ xs) h = after_onto workers xs (e ∷ h)
 
-pub prints_onto : (es h : List Entry) → prints (onto es h) ≡ prints h ++ written es
+pub prints_onto : (xs : List Told) (h : List Entry) → prints (onto xs h) ≡ prints h ++ written xs
 prints_onto [] h = sym (append-nil (prints h))
-prints_onto (e ∷ es) h = prints_onto es (e ∷ h) ∙ append_assoc (prints h) (bytes_of e.asked) (written es)
+prints_onto (Replied e ∷ xs) h = prints_onto xs (e ∷ h) ∙ append_assoc (prints h) (bytes_of e.asked) (written xs)
 
 pub printed_after : (workers : ℕ) (h : List Entry) → (after workers h).printed ≡ prints h
 printed_after workers [] = refl
 printed_after workers (e ∷ h) = ap (λ l. l ++ bytes_of e.asked) (printed_after workers h)
 
-own_main : (h : List Entry) → AllOf [] h → own [] h ≡ h
+own_main : (h : List Entry) → IsMain h → own [] h ≡ h
 own_main [] m = refl
 own_main (e ∷ h) m =
     ap (λ b. if b then e ∷ own [] h else own [] h) (ap (same []) m.0) ∙ ap (λ l. e ∷ l) (own_main h m.1)
-
-main_onto : (es h : List Entry) → AllOf [] h → AllOf [] es → AllOf [] (onto es h)
-main_onto [] h m n = m
-main_onto (e ∷ es) h m n = main_onto es (e ∷ h) (n.0, m) n.1
 
 -- ---- what a history once was
 
@@ -63,38 +72,66 @@ has_reply s (Read from name) = (_, refl)
 has_reply s (Write place name value) = (_, refl)
 has_reply s (Print bytes) = (_, refl)
 
-module _ {A : Type 0} (script : Program Use Reply A) where
+module _ {A : Type 0} (script : Program Wish Reply A) where
   -- the program is what is left of the script after the history
-  abbrev IsLeft : Program Use Reply A → List Entry → Type 0
-  IsLeft p h = (rs : List Reply) → next script (replies h ++ rs) ≡ next p rs
+  abbrev IsLeft : Program Wish Reply A → List Entry → Type 0
+  IsLeft p h = (rs : List Reply) → next (main_of script) (replies h ++ rs) ≡ next (main_of p) rs
 
-  asks_main : (h : List Entry) (who : List ℕ) (u : Use) → AllOf [] h → who ≡ [] → next script (replies h ++ []) ≡ Some u → Asks script h who u
-  asks_main h who u m main n = (
-    script,
-    (main, refl),
-    ap (λ w. next script (replies (own w h))) main ∙ (ap (λ l. next script (replies l)) (own_main h m) ∙ (ap (next script) (sym (append-nil (replies h))) ∙ n)),
-  )
+  left_at_end : (p : Program Wish Reply A) (h : List Entry) → IsMain h → IsLeft p h → next (main_of script) (replies (own [] h)) ≡ next (main_of p) []
+  left_at_end p h m l = ap (λ e. next (main_of script) (replies e)) (own_main h m) ∙ (ap (next (main_of script)) (sym (append-nil (replies h))) ∙ l [])
 
-  left_after : (q : Use) (k : Reply → Program Use Reply A) (e : Entry) (h : List Entry) → IsLeft (Ask q k) h → IsLeft (k e.reply) (e ∷ h)
-  left_after q k e h l rs = ap (next script) (append_assoc (replies h) (e.reply ∷ []) rs) ∙ l (e.reply ∷ rs)
+  asks_main : (h : List Entry) (q : Wish) (k : Reply → Program Wish Reply A) → IsMain h → IsLeft (Ask q k) h → Asks script h [] (use_of q)
+  asks_main h q k m l = (main_of script, (refl, refl), left_at_end (Ask q k) h m l)
 
-  faithful_onto : (p : Program Use Reply A) (es h : List Entry) → Faithful script h → AllOf [] h → IsLeft p h → Begins p (exchanges es) → AllOf [] es → Faithful script (onto es h)
-  faithful_onto p [] h f m l b n = f
-  faithful_onto (Return a) (e ∷ es) h f m l b n = absurd b
-  faithful_onto (Ask q k) (e ∷ es) h f m l b n =
-      faithful_onto (k e.reply) es (e ∷ h) (f, asks_main h e.who e.asked m n.0 (l [] ∙ ap Some (sym b.0))) (n.0, m) (left_after q k e h l) b.1 n.1
+  asks_by : (h : List Entry) (who : List ℕ) (u : Use) (q : Wish) (k : Reply → Program Wish Reply A) → IsMain h → IsLeft (Ask q k) h → who ≡ [] → u ≡ use_of q → Asks script h who u
+  asks_by h who u q k m l main is = subst (λ w. Asks script h w u) (sym main) (subst (Asks script h []) (sym is) (asks_main h q k m l))
 
-  complete_onto : (p : Program Use Reply A) (es h : List Entry) (a : A) → AllOf [] h → IsLeft p h → Ends p (exchanges es) a → AllOf [] es → Complete script (onto es h)
-  complete_onto (Return b) [] h a m l d n = ap (λ l. next script (replies l)) (own_main h m) ∙ (ap (next script) (sym (append-nil (replies h))) ∙ l [])
-  complete_onto (Return b) (e ∷ es) h a m l d n = absurd d
-  complete_onto (Ask q k) [] h a m l d n = absurd d
-  complete_onto (Ask q k) (e ∷ es) h a m l d n = complete_onto (k e.reply) es (e ∷ h) a (n.0, m) (left_after q k e h l) d.1 n.1
+  left_after : (q : Wish) (k : Reply → Program Wish Reply A) (e : Entry) (h : List Entry) → IsLeft (Ask q k) h → IsLeft (k e.reply) (e ∷ h)
+  left_after q k e h l rs = ap (next (main_of script)) (append_assoc (replies h) (e.reply ∷ []) rs) ∙ l (e.reply ∷ rs)
 
-  pub faithful_history : (es : List Entry) → AllOf [] es → Begins script (exchanges es) → Faithful script (history es)
-  faithful_history es m b = faithful_onto script es [] tt tt (λ rs. refl) b m
+  module _ (refuses : List ℕ → Use → Halt → Type 0) where
+    all_main : (p : Program Wish Reply A) (es : Events) (r : Result A Halt) → Does refuses [] p es r → AllMain (told es)
+    all_main p NoMore r d = tt
+    all_main (Return a) (Did e rest) r d = absurd d
+    all_main (Ask q k) (Did e rest) r d = (d.0, all_main (k e.reply) rest r d.2)
 
-  pub complete_history : (es : List Entry) (a : A) → AllOf [] es → Ends script (exchanges es) a → Complete script (history es)
-  complete_history es a m d = complete_onto script es [] a tt (λ rs. refl) d m
+    faithful_onto : (p : Program Wish Reply A) (es : Events) (r : Result A Halt) (h : List Entry) → Faithful script h → IsMain h → IsLeft p h → Does refuses [] p es r → Faithful script (onto (told es) h)
+    faithful_onto p NoMore r h f m l d = f
+    faithful_onto (Return a) (Did e rest) r h f m l d = absurd d
+    faithful_onto (Ask q k) (Did e rest) r h f m l d =
+        faithful_onto (k e.reply) rest r (e ∷ h) (f, asks_by h e.who e.asked q k m l d.0 d.1) (d.0, m) (left_after q k e h l) d.2
+
+    complete_onto : (p : Program Wish Reply A) (es : Events) (a : A) (h : List Entry) → IsMain h → IsLeft p h → Does refuses [] p es (Ok a) → Complete script (onto (told es) h)
+    complete_onto p NoMore a h m l d = left_at_end p h m l ∙ ap (λ x. next (main_of x) []) d
+    complete_onto (Return b) (Did e rest) a h m l d = absurd d
+    complete_onto (Ask q k) (Did e rest) a h m l d = complete_onto (k e.reply) rest a (e ∷ h) (d.0, m) (left_after q k e h l) d.2
+
+    -- what is refused at a halt that isn't want of memory is the next use
+    refused_next : (p : Program Wish Reply A) (halt : Halt) (h : List Entry) → IsMain h → IsLeft p h → HaltsAt refuses halt [] p → halt ≢ halts.NoMemory
+        → (asked : Use) × Asks script h [] asked × refuses [] asked halt
+    refused_next p halts.NoMemory h m l d n = absurd (n refl)
+    refused_next (Return a) halts.Wait h m l d n = absurd d
+    refused_next (Ask q k) halts.Wait h m l d n = (use_of q, asks_main h q k m l, d)
+    refused_next (Return a) (halts.Closed cause) h m l d n = absurd d
+    refused_next (Ask q k) (halts.Closed cause) h m l d n = (use_of q, asks_main h q k m l, d)
+
+    refused_onto : (p : Program Wish Reply A) (es : Events) (halt : Halt) (h : List Entry) → IsMain h → IsLeft p h → Does refuses [] p es (Err halt) → halt ≢ halts.NoMemory
+        → (asked : Use) × Asks script (onto (told es) h) [] asked × refuses [] asked halt
+    refused_onto p NoMore halt h m l d n = refused_next p halt h m l d n
+    refused_onto (Return b) (Did e rest) halt h m l d n = absurd d
+    refused_onto (Ask q k) (Did e rest) halt h m l d n = refused_onto (k e.reply) rest halt (e ∷ h) (d.0, m) (left_after q k e h l) d.2 n
+
+    pub legal_history : (workers : ℕ) (es : Events) (r : Result A Halt) → Does refuses [] script es r → Tells 0 (first workers) (told es) → Legal workers (history (told es))
+    legal_history workers es r d t = legal_onto workers (told es) [] tt t (all_main script es r d)
+
+    pub faithful_history : (es : Events) (r : Result A Halt) → Does refuses [] script es r → Faithful script (history (told es))
+    faithful_history es r d = faithful_onto script es r [] tt tt (λ rs. refl) d
+
+    pub complete_history : (es : Events) (a : A) → Does refuses [] script es (Ok a) → Complete script (history (told es))
+    complete_history es a d = complete_onto script es a [] tt (λ rs. refl) d
+
+    pub refused_history : (es : Events) (halt : Halt) → Does refuses [] script es (Err halt) → halt ≢ halts.NoMemory → (asked : Use) × Asks script (history (told es)) [] asked × refuses [] asked halt
+    refused_history es halt d n = refused_onto script es halt [] tt (λ rs. refl) d n
 
   -- ---- the one-thread run
 
@@ -123,7 +160,7 @@ module _ {A : Type 0} (script : Program Use Reply A) where
     faithful_run [] o = tt
     faithful_run (e ∷ h) o = (faithful_run h o.0, subst (λ w. Asks script h w e.asked) (sym o.1) o.3)
 
-    asks_next : (h : List Entry) (u : Use) → Asks script h [] u → next script (replies (own [] h)) ≡ Some u
+    asks_next : (h : List Entry) (u : Use) → Asks script h [] u → next (main_of script) (replies (own [] h)) ≡ Some u
     asks_next h u a = ap (λ p. next p (replies (own [] h))) (sym a.1.1) ∙ a.2
 
     same_entry : (e f : Entry) (h : List Entry) → OneThread script workers (e ∷ h) → OneThread script workers (f ∷ h) → e ≡ f
@@ -141,13 +178,13 @@ module _ {A : Type 0} (script : Program Use Reply A) where
     whole_run h l f c = (one_thread h l f, λ e o. let asked = asks_next h e.asked o.3 in cc)
 
     pub complete_run : (h : List Entry) → OneThreadRun script workers h → Complete script h
-    complete_run h o = by (next script (replies (own [] h))) refl
+    complete_run h o = by (next (main_of script) (replies (own [] h))) refl
       where
-        by : (n : Option Use) → next script (replies (own [] h)) ≡ n → next script (replies (own [] h)) ≡ None
+        by : (n : Option Use) → next (main_of script) (replies (own [] h)) ≡ n → next (main_of script) (replies (own [] h)) ≡ None
         by None e = e
         by (Some u) e =
             let r = has_reply (after workers h) u in
-            absurd (o.1 (record { who = []; thread = 0; asked = u; reply = r.0 }) (o.0, refl, refl, (script, (refl, refl), e), r.1))
+            absurd (o.1 (record { who = []; thread = 0; asked = u; reply = r.0 }) (o.0, refl, refl, (main_of script, (refl, refl), e), r.1))
 
     pub once_run : (r : List Entry) → OneThreadRun script workers r → (h : List Entry) → OneThread script workers h → Once h r
     once_run r o [] p = once_empty r
@@ -169,20 +206,24 @@ module _ {A : Type 0} (script : Program Use Reply A) where
   faithful_once p (x ∷ h) (inl e) f = subst (Faithful script) (sym e) f
   faithful_once p (x ∷ h) (inr s) f = faithful_once p h s f.0
 
+-- nothing is refused
+abbrev nothing_refused : List ℕ → Use → Halt → Type 0
+nothing_refused who asked halt = ⊥
+
 -- what a program and the desk do from a state on
-done_from : {A : Type 0} (p : Program Use Reply A) (s : State) → (es : List Entry) × (a : A) × Ends p (exchanges es) a × RepliedOn 0 s es × AllOf [] es
-done_from (Return a) s = ([], a, refl, tt, tt)
+done_from : {A : Type 0} (p : Program Wish Reply A) (s : State) → (es : Events) × (a : A) × Does nothing_refused [] p es (Ok a) × Tells 0 s (told es)
+done_from (Return a) s = (NoMore, a, refl, tt)
 done_from (Ask q k) s =
-    let r = has_reply s q in
-    let rest = done_from (k r.0) (moved s [] 0 q r.0) in
-    (entry [] 0 q r.0 ∷ rest.0, rest.1, (refl, rest.2), (refl, r.1, rest.3), (refl, rest.4))
+    let r = has_reply s (use_of q) in
+    let rest = done_from (k r.0) (moved s (entry [] 0 (use_of q) r.0)) in
+    (Did (entry [] 0 (use_of q) r.0) rest.0, rest.1, (refl, refl, rest.2), ((refl, r.1), rest.3))
 
 -- so there is a one-thread run
-pub a_run : {A : Type 0} (script : Program Use Reply A) (workers : ℕ) → (r : List Entry) × OneThreadRun script workers r
+pub a_run : {A : Type 0} (script : Program Wish Reply A) (workers : ℕ) → (r : List Entry) × OneThreadRun script workers r
 a_run script workers =
     let d = done_from script (first workers) in (
-      history d.0,
-      whole_run script workers (history d.0) (legal_onto workers d.0 [] tt d.3 d.4) (faithful_history script d.0 d.4 (begins_ended script (exchanges d.0) d.1 d.2)) (complete_history script d.0 d.1 d.4 d.2),
+      history (told d.0),
+      whole_run script workers (history (told d.0)) (legal_history script nothing_refused workers d.0 (Ok d.1) d.2 d.3) (faithful_history script nothing_refused d.0 (Ok d.1) d.2) (complete_history script nothing_refused d.0 d.1 d.2),
     )
 
 pub legal_once : (workers : ℕ) (p h : List Entry) → Once p h → Legal workers h → Legal workers p

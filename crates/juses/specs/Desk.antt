@@ -1,11 +1,13 @@
--- The desk: the session's state, its reply to each use, and the state after the use and its reply.
-use Rattle.std.specs.Prelude.{ℕ, List, [], ◌∷◌, ◌++◌, if◌then◌else◌, Option, Some, None}
+-- The desk: the session's state, its reply to each use, and the state after an entry. A name is sought in the locale
+-- that it is read from, and then along that locale's path (J Dictionary, "Locatives").
+use Rattle.std.specs.Prelude.{ℕ, List, [], ◌∷◌, ◌++◌, map, if◌then◌else◌, Option, Some, None}
 use Rattle.std.specs.BTreeMap.{insert_entry}
 use Rattle.std.specs.Cmp.Lexicographic.{slice_cmp}
 use Rattle.std.specs.Ordering.{match_ordering, nat_cmp}
 use Rattle.jterm.specs.declared.term.Term.{Term}
 use Rattle.jterm.specs.declared.term.Term.TheVariants as term
-use Rattle.juses.specs.Keys.{Key, NameIn, NamesOf, Locales, base_locale, z_locale, is_among, changed_by}
+use Rattle.juses.specs.Keys.{Key, NameIn, NamesOf, Locales, base_locale, z_locale, changed_by}
+use Rattle.juses.specs.declared.uses.Entry.{Entry}
 use Rattle.juses.specs.declared.uses.Use.{Use}
 use Rattle.juses.specs.declared.uses.Use.TheVariants.{Read, Write, Print}
 use Rattle.juses.specs.declared.uses.Reply.{Reply}
@@ -40,10 +42,18 @@ first_at Locales = base_locale ∷ z_locale ∷ []
 abbrev pub first : ℕ → State
 first workers = record { at = first_at; printed = []; workers = workers }
 
--- the value in the locale from which a name is read, else that in `z`
-abbrev pub found : Option Term → Option Term → Option Term
-found (Some v) w = Some v
-found None w = w
+-- the locales in which a search goes on after this one: each locale's path is `z`
+abbrev pub path_of : State → List ℕ → List (List ℕ)
+path_of s place = z_locale ∷ []
+
+abbrev pub first_of : Option Term → Option Term → Option Term
+first_of (Some v) w = Some v
+first_of None w = w
+
+-- the first value along these locales
+abbrev pub found : (List ℕ → Option Term) → List (List ℕ) → Option Term
+found value [] = None
+found value (place ∷ path) = first_of (value place) (found value path)
 
 abbrev pub named : Option Term → Reply
 named (Some v) = Named v
@@ -51,9 +61,15 @@ named None = Nothing
 
 -- the reply to the use that an activity makes on a thread; none where it has to wait
 abbrev pub reply : State → List ℕ → ℕ → Use → Option Reply
-reply s who thread (Read from name) = Some (named (found (s.at (NameIn from name)) (s.at (NameIn z_locale name))))
+reply s who thread (Read from name) = Some (named (found (λ place. s.at (NameIn place name)) (from ∷ path_of s from)))
 reply s who thread (Write place name value) = Some Done
 reply s who thread (Print bytes) = Some Done
+
+-- the keys of which the reply to a use is a function
+abbrev pub depends_on : State → Use → List Key
+depends_on s (Read from name) = map (λ place. NameIn place name) (from ∷ path_of s from)
+depends_on s (Write place name value) = []
+depends_on s (Print bytes) = []
 
 -- the locales in order of bytes, with this one among them
 abbrev pub with_locale : List ℕ → List (List ℕ) → List (List ℕ)
@@ -76,10 +92,11 @@ left_locales (Write place name value) old = with_locale place old
 left_locales (Read from name) old = old
 left_locales (Print bytes) old = old
 
-abbrev pub left_at : (k : Key) → Use → At k → At k
-left_at (NameIn place name) asked old = left_name asked old
-left_at (NamesOf place) asked old = left_names asked old
-left_at Locales asked old = left_locales asked old
+-- what an entry leaves at a key that it changes, in the state before
+abbrev pub left_at : (k : Key) → Entry → State → At k
+left_at (NameIn place name) e s = left_name e.asked (s.at (NameIn place name))
+left_at (NamesOf place) e s = left_names e.asked (s.at (NamesOf place))
+left_at Locales e s = left_locales e.asked (s.at Locales)
 
 -- the bytes that a use prints
 abbrev pub bytes_of : Use → List ℕ
@@ -87,10 +104,10 @@ bytes_of (Print bytes) = bytes
 bytes_of (Read from name) = []
 bytes_of (Write place name value) = []
 
--- the state after a use and its reply
-abbrev pub moved : State → List ℕ → ℕ → Use → Reply → State
-moved s who thread asked replied = record {
-  at = λ k. if is_among (changed_by asked replied) k then left_at k asked (s.at k) else s.at k;
-  printed = s.printed ++ bytes_of asked;
+-- the state after an entry
+abbrev pub moved : State → Entry → State
+moved s e = record {
+  at = λ k. if changed_by e k then left_at k e s else s.at k;
+  printed = s.printed ++ bytes_of e.asked;
   workers = s.workers;
 }

@@ -1,9 +1,10 @@
 -- Histories of a session: what was asked and replied, in one order for all activities. The newest entry stands in
 -- front, so that what was before an entry is what stands behind it.
 use Rattle.std.specs.Prelude.{◌≡◌, ◌⊎◌, ℕ, List, [], ◌∷◌, ◌++◌, if◌then◌else◌, Some, None}
-use Rattle.juses.specs.Program.{Program, next}
+use Rattle.juses.specs.Program.{Program, next, main_of}
 use Rattle.juses.specs.Keys.{same}
 use Rattle.juses.specs.Desk.{State, first, reply, moved, bytes_of}
+use Rattle.juses.specs.Wishes.{Wish}
 use Rattle.juses.specs.declared.uses.Entry.{Entry}
 use Rattle.juses.specs.declared.uses.Use.{Use}
 use Rattle.juses.specs.declared.uses.Reply.{Reply}
@@ -16,7 +17,7 @@ Once p (e ∷ h) = (p ≡ (e ∷ h)) ⊎ Once p h
 -- the state after a history, with so many workers
 abbrev pub after : ℕ → List Entry → State
 after workers [] = first workers
-after workers (e ∷ h) = moved (after workers h) e.who e.thread e.asked e.reply
+after workers (e ∷ h) = moved (after workers h) e
 
 -- whether an entry of the activity may have the thread: main's have thread 0, and no other activity has begun
 abbrev pub Fits : List ℕ → ℕ → Type 0
@@ -43,14 +44,14 @@ abbrev pub prints : List Entry → List ℕ
 prints [] = []
 prints (e ∷ h) = prints h ++ bytes_of e.asked
 
-module _ {A : Type 0} (script : Program Use Reply A) where
+module _ {A : Type 0} (script : Program Wish Reply A) where
   -- after this history the activity runs this program: main runs the script, and no other activity was started
-  abbrev pub Runs : List Entry → List ℕ → Program Use Reply A → Type 0
-  Runs h who program = (who ≡ []) × (program ≡ script)
+  abbrev pub Works : List Entry → List ℕ → Program Use Reply (Unit {0}) → Type 0
+  Works h who program = (who ≡ []) × (program ≡ main_of script)
 
   -- the activity's next use after this history
   abbrev pub Asks : List Entry → List ℕ → Use → Type 0
-  Asks h who asked = (program : Program Use Reply A) × Runs h who program × (next program (replies (own who h)) ≡ Some asked)
+  Asks h who asked = (program : Program Use Reply (Unit {0})) × Works h who program × (next program (replies (own who h)) ≡ Some asked)
 
   -- each entry's use is the next of its activity
   abbrev pub Faithful : List Entry → Type 0
@@ -59,7 +60,7 @@ module _ {A : Type 0} (script : Program Use Reply A) where
 
   -- main has nothing left to ask
   abbrev pub Complete : List Entry → Type 0
-  Complete h = next script (replies (own [] h)) ≡ None
+  Complete h = next (main_of script) (replies (own [] h)) ≡ None
 
   -- the activity that goes on where one thread runs all: the last that was started and hasn't ended, so main
   abbrev pub going : List Entry → List ℕ

@@ -18,7 +18,7 @@ by_bytes bytes es = map (λ e. (bytes e.0, e.1)) es
 
 -- what a search from the locale finds
 abbrev pub sought : LocaleTable → List ℕ → List ℕ → Option Term
-sought l from name = found (value_in l from name) (value_in l z_locale name)
+sought l from name = found (λ place. value_in l place name) (from ∷ z_locale ∷ [])
 
 -- the tables with this value of the name in the locale
 abbrev pub with_value : LocaleTable → List ℕ → List ℕ → Term → LocaleTable

@@ -1,10 +1,9 @@
--- The keys of the session's state, and what each use depends on and changes, key by key. A name is sought in the
--- locale that it is read from, and then in `z` (J Dictionary, "Locatives").
-use Rattle.std.specs.Prelude.{ℕ, List, [], ◌∷◌, Bool, true, false, ◌&&◌, ◌||◌, nat_eq, codes}
+-- The keys of the session's state, and which of them each entry changes.
+use Rattle.std.specs.Prelude.{ℕ, List, Bool, true, false, ◌&&◌, ◌||◌, [], ◌∷◌, nat_eq, codes}
 use Rattle.std.specs.Cmp.Lexicographic.{pointwise}
+use Rattle.juses.specs.declared.uses.Entry.{Entry}
 use Rattle.juses.specs.declared.uses.Use.{Use}
 use Rattle.juses.specs.declared.uses.Use.TheVariants.{Read, Write, Print}
-use Rattle.juses.specs.declared.uses.Reply.{Reply}
 
 -- whether two names, or two paths, are the same
 abbrev pub same : List ℕ → List ℕ → Bool
@@ -34,14 +33,14 @@ abbrev pub is_among : List Key → Key → Bool
 is_among [] k = false
 is_among (j ∷ js) k = same_key j k || is_among js k
 
--- what the reply to a use depends on
-abbrev pub depends_on : Use → List Key
-depends_on (Read from name) = NameIn from name ∷ NameIn z_locale name ∷ []
-depends_on (Write place name value) = []
-depends_on (Print bytes) = []
+-- a name's value changes that name, its locale's names and the locales
+abbrev pub changes : Use → Key → Bool
+changes (Read from name) k = false
+changes (Write place name value) (NameIn p n) = same place p && same name n
+changes (Write place name value) (NamesOf p) = same place p
+changes (Write place name value) Locales = true
+changes (Print bytes) k = false
 
--- what a use changes, given its reply
-abbrev pub changed_by : Use → Reply → List Key
-changed_by (Read from name) reply = []
-changed_by (Write place name value) reply = NameIn place name ∷ NamesOf place ∷ Locales ∷ []
-changed_by (Print bytes) reply = []
+-- whether the entry changes what stands at the key
+abbrev pub changed_by : Entry → Key → Bool
+changed_by e k = changes e.asked k

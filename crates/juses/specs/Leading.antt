@@ -1,43 +1,62 @@
--- Which entries lead from one desk to another, on one thread, and which printed bytes were handed out on the way.
-use Rattle.std.specs.Prelude.{◌≡◌, ℕ, List, [], ◌∷◌, ◌++◌, take}
+-- What leads from one desk to another, on one thread.
+use Rattle.std.specs.Prelude.{◌≡◌, ℕ, List, [], ◌∷◌, ◌++◌, take, Option}
 use Rattle.std.proofs.Common.{refl, sym, subst, ap, ◌∙◌, append_assoc, append-nil}
-use Rattle.juses.specs.Desk.{State, moved}
-use Rattle.juses.specs.Standing.{Kept, Stands}
-use Rattle.juses.specs.OldestFirst.{taken, RepliedOn}
-use Rattle.juses.specs.declared.uses.Entry.{Entry}
+use Rattle.juses.specs.Desk.{State}
+use Rattle.juses.specs.OldestFirst.{moved_by, taken, Tells}
+use Rattle.juses.specs.Standing.{Kept, Stands, first_cause}
+use Rattle.juses.specs.Told.{Told, Passed, nothing, ◌followed_by◌}
+use Rattle.juses.specs.declared.uses.Cause.{Cause}
 
 -- the printed bytes that were handed out
 abbrev pub out_of : Kept → State → List ℕ
 out_of d s = take d.handed s.printed
 
--- each reply is the definition's, the second desk stands for the state that the entries lead to, and these bytes are
--- what was handed out since. Whether the desk was closed is no part of it.
-pub record LeadsFrom (d : Kept) (s : State) (es : List Entry) (bytes : List ℕ) (d' : Kept) : Type 0 where
-  pub replied : RepliedOn 0 s es
-  pub stands : Stands d' (taken s es)
-  pub out : out_of d' (taken s es) ≡ out_of d s ++ bytes
+-- why a desk is closed, if it is, after closings with these causes
+abbrev pub closed_after : Option Cause → List Cause → Option Cause
+closed_after closed [] = closed
+closed_after closed (cause ∷ causes) = closed_after (first_cause closed cause) causes
 
-abbrev pub Leads : Kept → List Entry → List ℕ → Kept → Type 0
-Leads d es bytes d' = (s : State) → Stands d s → LeadsFrom d s es bytes d'
+-- each reply is the definition's, the second desk stands for the state that what is told leads to, and the bytes are what
+-- was handed out since
+pub record LeadsFrom (d : Kept) (s : State) (p : Passed) (d' : Kept) : Type 0 where
+  pub tells : Tells 0 s p.told
+  pub stands : Stands d' (taken s p.told)
+  pub out : out_of d' (taken s p.told) ≡ out_of d s ++ p.handed
 
-pub leads_nowhere : (d : Kept) → Leads d [] [] d
-leads_nowhere d s st = record { replied = tt; stands = st; out = sym (append-nil (out_of d s)) }
+-- so from each state that the first desk stands for; and it was closed as is told, and not otherwise
+pub record Leads (d : Kept) (p : Passed) (d' : Kept) : Type 0 where
+  pub from : (s : State) → Stands d s → LeadsFrom d s p d'
+  pub closed : d'.closed ≡ closed_after d.closed p.closed
 
-pub taken-append : (s : State) (es fs : List Entry) → taken s (es ++ fs) ≡ taken (taken s es) fs
-taken-append s [] fs = refl
-taken-append s (e ∷ es) fs = taken-append (moved s e.who e.thread e.asked e.reply) es fs
+pub leads_nowhere : (d : Kept) → Leads d nothing d
+leads_nowhere d = record { from = λ s st. record { tells = tt; stands = st; out = sym (append-nil (out_of d s)) }; closed = refl }
 
-both_replied : (s : State) (es fs : List Entry) → RepliedOn 0 s es → RepliedOn 0 (taken s es) fs → RepliedOn 0 s (es ++ fs)
-both_replied s [] fs one other = other
-both_replied s (e ∷ es) fs one other = (one.0, one.1, both_replied (moved s e.who e.thread e.asked e.reply) es fs one.2 other)
+pub taken-append : (s : State) (xs ys : List Told) → taken s (xs ++ ys) ≡ taken (taken s xs) ys
+taken-append s [] ys = refl
+taken-append s (x ∷ xs) ys = taken-append (moved_by s x) xs ys
 
-pub leads_on : (d c b : Kept) (es fs : List Entry) (bs cs : List ℕ) → Leads d es bs c → Leads c fs cs b → Leads d (es ++ fs) (bs ++ cs) b
-leads_on d c b es fs bs cs one other s st =
-    let half = one s st in
-    let rest = other (taken s es) half.stands in
-    let P : State → Type 0 = Stands b in
+both_tell : (s : State) (xs ys : List Told) → Tells 0 s xs → Tells 0 (taken s xs) ys → Tells 0 s (xs ++ ys)
+both_tell s [] ys one other = other
+both_tell s (x ∷ xs) ys one other = (one.0, both_tell (moved_by s x) xs ys one.1 other)
+
+closed_after-append : (closed : Option Cause) (cs es : List Cause) → closed_after closed (cs ++ es) ≡ closed_after (closed_after closed cs) es
+closed_after-append closed [] es = refl
+closed_after-append closed (c ∷ cs) es = closed_after-append (first_cause closed c) cs es
+
+pub leads_on : (d c b : Kept) (p q : Passed) → Leads d p c → Leads c q b → Leads d (p followed_by q) b
+leads_on d c b p q one other =
     record {
-      replied = both_replied s es fs half.replied rest.replied;
-      stands = subst P (sym (taken-append s es fs)) rest.stands;
-      out = ap (out_of b) (taken-append s es fs) ∙ rest.out ∙ ap (λ xs. xs ++ cs) half.out ∙ append_assoc (out_of d s) bs cs;
+      from = on;
+      closed = other.closed ∙ ap (λ o. closed_after o q.closed) one.closed ∙ sym (closed_after-append d.closed p.closed q.closed);
     }
+  where
+    on : (s : State) → Stands d s → LeadsFrom d s (p followed_by q) b
+    on s st =
+        let half = one.from s st in
+        let rest = other.from (taken s p.told) half.stands in
+        let P : State → Type 0 = Stands b in
+        record {
+          tells = both_tell s p.told q.told half.tells rest.tells;
+          stands = subst P (sym (taken-append s p.told q.told)) rest.stands;
+          out = ap (out_of b) (taken-append s p.told q.told) ∙ rest.out ∙ ap (λ xs. xs ++ q.handed) half.out ∙ append_assoc (out_of d s) p.handed q.handed;
+        }

@@ -1,5 +1,8 @@
+pub mod Wishes
 pub mod Program
 pub mod Entries
+pub mod Told
+pub mod Events
 pub mod Keys
 pub mod Desk
 pub mod Histories

@@ -1,41 +1,35 @@
--- Entries with the oldest in front, as contracts tell what was done, and how they become a history.
-use Rattle.std.specs.Prelude.{◌≡◌, ℕ, List, [], ◌∷◌, ◌++◌, map, Some}
+-- What is told, the oldest in front, and how it becomes a history.
+use Rattle.std.specs.Prelude.{◌≡◌, ℕ, List, [], ◌∷◌, ◌++◌, Some}
 use Rattle.juses.specs.Desk.{State, reply, moved, bytes_of}
+use Rattle.juses.specs.Told.{Told, Replied}
 use Rattle.juses.specs.declared.uses.Entry.{Entry}
-use Rattle.juses.specs.declared.uses.Use.{Use}
-use Rattle.juses.specs.declared.uses.Reply.{Reply}
 
--- the state after these entries
-abbrev pub taken : State → List Entry → State
+-- the state after what is told
+abbrev pub moved_by : State → Told → State
+moved_by s (Replied e) = moved s e
+
+abbrev pub taken : State → List Told → State
 taken s [] = s
-taken s (e ∷ es) = taken (moved s e.who e.thread e.asked e.reply) es
+taken s (x ∷ xs) = taken (moved_by s x) xs
 
--- each entry was made on this thread, and its reply is the desk's at its place
-abbrev pub RepliedOn : ℕ → State → List Entry → Type 0
-RepliedOn thread s [] = Unit {0}
-RepliedOn thread s (e ∷ es) =
-    (e.thread ≡ thread) × (reply s e.who e.thread e.asked ≡ Some e.reply)
-    × RepliedOn thread (moved s e.who e.thread e.asked e.reply) es
+-- what is told on this thread: each reply is the desk's
+abbrev pub TellsOne : ℕ → State → Told → Type 0
+TellsOne thread s (Replied e) = (e.thread ≡ thread) × (reply s e.who e.thread e.asked ≡ Some e.reply)
 
--- the activity made each of these entries
-abbrev pub AllOf : List ℕ → List Entry → Type 0
-AllOf who [] = Unit {0}
-AllOf who (e ∷ es) = (e.who ≡ who) × AllOf who es
+abbrev pub Tells : ℕ → State → List Told → Type 0
+Tells thread s [] = Unit {0}
+Tells thread s (x ∷ xs) = TellsOne thread s x × Tells thread (moved_by s x) xs
 
--- the question and the reply of each entry
-abbrev pub exchanges : List Entry → List (Use × Reply)
-exchanges es = map (λ e. (e.asked, e.reply)) es
-
--- the bytes that they print, in order
-abbrev pub written : List Entry → List ℕ
+-- the bytes that are printed, in order
+abbrev pub written : List Told → List ℕ
 written [] = []
-written (e ∷ es) = bytes_of e.asked ++ written es
+written (Replied e ∷ xs) = bytes_of e.asked ++ written xs
 
 -- the entries, one after another, put on a history
-abbrev pub onto : List Entry → List Entry → List Entry
+abbrev pub onto : List Told → List Entry → List Entry
 onto [] h = h
-onto (e ∷ es) h = onto es (e ∷ h)
+onto (Replied e ∷ xs) h = onto xs (e ∷ h)
 
 -- the entries as a history
-abbrev pub history : List Entry → List Entry
-history es = onto es []
+abbrev pub history : List Told → List Entry
+history xs = onto xs []

@@ -4,6 +4,7 @@ use Rattle.std.specs.Map.{lookup, keys_of}
 use Rattle.jterm.specs.declared.term.Term.{Term}
 use Rattle.juses.specs.Keys.{Key, NameIn, NamesOf, Locales, same}
 use Rattle.juses.specs.Desk.{State, At, class_of, reply, moved}
+use Rattle.juses.specs.Entries.{entry}
 use Rattle.juses.specs.declared.uses.Cause.{Cause}
 use Rattle.juses.specs.declared.uses.Use.{Use}
 use Rattle.juses.specs.declared.uses.Reply.{Reply}
@@ -49,7 +50,7 @@ pub record Stands (d : Kept) (s : State) : Type 0 where
 
 -- the reply to the use is the definition's, and the desk afterwards stands for the state after it
 abbrev pub Answers : Kept → List ℕ → ℕ → Use → Reply → Kept → Type 0
-Answers d who thread asked replied d' = (s : State) → Stands d s → (reply s who thread asked ≡ Some replied) × Stands d' (moved s who thread asked replied)
+Answers d who thread asked replied d' = (s : State) → Stands d s → (reply s who thread asked ≡ Some replied) × Stands d' (moved s (entry who thread asked replied))
 
 -- a closed desk answers its cause, and an open one has no reply only for want of memory
 abbrev pub HaltsRightly : Option Cause → Result Reply Halt → Type 0
@@ -57,11 +58,15 @@ HaltsRightly (Some cause) answer = answer ≡ Err (Closed cause)
 HaltsRightly None (Ok replied) = ⊤
 HaltsRightly None (Err halt) = halt ≡ NoMemory
 
--- what a refusal says of the desk that refused: it was closed with this cause. It never has to wait.
-abbrev pub Refuses : Kept → Halt → Type 0
-Refuses d (Closed cause) = d.closed ≡ Some cause
-Refuses d NoMemory = Unit {0}
-Refuses d Wait = ⊥
+-- there is no reply to this use now
+abbrev pub Waits : Kept → List ℕ → Use → Type 0
+Waits d who asked = (s : State) → Stands d s → reply s who 0 asked ≡ None
+
+-- what a refusal of a use on thread 0 says of the desk that refused: it was closed with this cause, or the use has to wait
+abbrev pub Refuses : Kept → List ℕ → Use → Halt → Type 0
+Refuses d who asked (Closed cause) = d.closed ≡ Some cause
+Refuses d who asked NoMemory = Unit {0}
+Refuses d who asked Wait = Waits d who asked
 
 -- nothing was handed out, and the desk wasn't closed
 pub record OnlyMoves (d d' : Kept) : Type 0 where
@@ -69,8 +74,8 @@ pub record OnlyMoves (d d' : Kept) : Type 0 where
   pub closed : d'.closed ≡ d.closed
 
 -- the desk once its printed bytes were handed out
-abbrev pub handed_out : Kept → Kept
-handed_out d = record d { waiting = []; handed = d.handed + length d.waiting }
+abbrev pub emptied : Kept → Kept
+emptied d = record d { waiting = []; handed = d.handed + length d.waiting }
 
 -- the bytes end all that was printed, and what was handed out before begins it
 abbrev pub HandsOut : Kept → List ℕ → Kept → Type 0

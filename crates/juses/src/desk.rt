@@ -42,7 +42,7 @@ impl Model for Desk {
 impl Desk {
     ghost use Rattle.juses.specs.Desk.{State, first, named};
     ghost use Rattle.juses.specs.Keeping.{first_kept, sought, kept_reply, kept_after};
-    ghost use Rattle.juses.specs.Standing.{Stands, Answers, OnlyMoves, HaltsRightly, HandsOut, handed_out, closed_by};
+    ghost use Rattle.juses.specs.Standing.{Stands, Answers, OnlyMoves, HaltsRightly, HandsOut, emptied, closed_by};
 
     /// The state of a new session, with this number of workers: the locales `base` and `z`, and no
     /// names.
@@ -123,7 +123,7 @@ impl Desk {
     /// The printed bytes that weren't handed out yet, in order. It takes no memory.
     pub fn take_prints(&mut self) -> Bytes
         ensures bytes { result ≡ self.old.waiting }
-        ensures rest { self.new ≡ handed_out self.old }
+        ensures rest { self.new ≡ emptied self.old }
         ensures hands_out { HandsOut self.old result self.new }
         ensures few { self.new.handed < 2 ^ 64 }
     {

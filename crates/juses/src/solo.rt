@@ -1,11 +1,12 @@
 //! A session on one thread.
-ghost use Rattle.std.specs.Prelude.{◌≡◌, [], ◌∷◌, IfOk, IfErr, OnOk, OnErr};
+ghost use Rattle.std.specs.Prelude.{◌≡◌, [], IfOk, IfErr, OnOk, OnErr};
 ghost use Rattle.juses.specs.Closing.{ClosedWith};
 ghost use Rattle.juses.specs.Desk.{first};
 ghost use Rattle.juses.specs.Entries.{entry};
 ghost use Rattle.juses.specs.Keeping.{first_kept};
 ghost use Rattle.juses.specs.Leading.{Leads, leads_nowhere, leads_on};
-ghost use Rattle.juses.specs.Standing.{Stands, OnlyMoves, HaltsRightly, Refuses, HandsOut, handed_out, closed_by};
+ghost use Rattle.juses.specs.Standing.{Stands, OnlyMoves, HaltsRightly, Refuses, HandsOut, emptied, closed_by};
+ghost use Rattle.juses.specs.Told.{nothing, replied, handed_out, closed_with};
 
 use crate::desk::Desk;
 use crate::uses::{Cause, Halt, Reply, Use, Uses};
@@ -56,14 +57,16 @@ impl Uses for Solo {
 
     ghost refuses = { Refuses };
 
+    ghost heads = { λ _. Unit {0} };
+
     ghost thread = { λ _. 0 };
 
     /// Answers one use, on thread 0.
     fn call(&mut self, who: Path, asked: Use) -> Result<Reply, Halt>
-        ensures ok { IfOk result (λ replied. Leads self.old (entry who 0 asked replied ∷ []) [] self.new) }
-        ensures err { OnErr result (Leads self.old [] [] self.new) }
+        ensures ok { IfOk result (λ reply. Leads self.old (replied (entry who 0 asked reply)) self.new) }
+        ensures err { OnErr result (Leads self.old nothing self.new) }
         ensures only { OnOk result (OnlyMoves self.old self.new) }
-        ensures halts { IfErr result (λ why. Refuses self.new why) }
+        ensures halts { IfErr result (λ why. Refuses self.new who asked why) }
         ensures rightly { HaltsRightly self.old.closed result }
         ensures unchanged { OnErr result (self.new ≡ self.old) }
     {
@@ -72,10 +75,10 @@ impl Uses for Solo {
 
     /// The printed bytes that weren't taken yet, in order.
     fn take_prints(&mut self) -> Bytes
-        ensures leads { Leads self.old [] result self.new }
+        ensures leads { Leads self.old (handed_out result) self.new }
         ensures all { self.new.waiting ≡ [] }
         ensures bytes { result ≡ self.old.waiting }
-        ensures rest { self.new ≡ handed_out self.old }
+        ensures rest { self.new ≡ emptied self.old }
         ensures hands_out { HandsOut self.old result self.new }
     {
         self.desk.take_prints()
@@ -83,7 +86,7 @@ impl Uses for Solo {
 
     /// Closes the session. The first cause counts.
     fn close(&mut self, cause: Cause)
-        ensures leads { Leads self.old [] [] self.new }
+        ensures leads { Leads self.old (closed_with cause) self.new }
         ensures closed { ClosedWith Refuses self.old self.new cause }
         ensures first { self.new ≡ closed_by self.old cause }
     {
@@ -94,5 +97,7 @@ impl Uses for Solo {
 
     ghost joins = { leads_on };
 
-    ghost same_thread = { λ s t es bs l. Prim.search };
+    ghost same_thread = { λ s t p l. Prim.search };
+
+    ghost stays_head = { λ s t p l h. h };
 }
