@@ -2,7 +2,10 @@
 use Rattle.std.proofs.Common.{◌≡◌, ℕ, zero, suc, ◌<◌, ◌≤◌, List, [], ◌∷◌, length, get_or, Some, None, arith, refl, ap, sym, ◌∙◌, ◌-◌, reverse}
 use Rattle.std.proofs.lemmas.List.{get_or-reverse, length-reverse}
 use Rattle.jeval.specs.declared.part.Part.{Part}
-use Rattle.jeval.specs.Parsing.{class_of, class_at}
+use Rattle.std.proofs.lemmas.List.Quantifiers.{position-Some}
+use Rattle.jeval.specs.declared.parsing.Group.TheVariants as group
+use Rattle.jeval.specs.declared.parsing.Top.{Top}
+use Rattle.jeval.specs.Parsing.{class_of, class_at, row_of, matches, table}
 
 pub class_there : (at : ℕ) (parts : List Part) (d : Part) → at < length parts → Some (class_of (get_or parts at d)) ≡ class_at at parts
 class_there at [] d inside = absurd (omega (arith, inside))
@@ -25,3 +28,8 @@ class_read items at n part all inside read =
 
 pub none_read : (items : List Part) (at n : ℕ) → n ≡ length items → n ≤ at → None ≡ class_at at (reverse items)
 none_read items at n all outside = none_there at (reverse items) (omega (arith, all, outside, length-reverse items))
+
+-- the table has nine rows
+pub row_below : (top : Top) (row : ℕ) → row_of top ≡ Some row → row < 9
+unfolding row_of
+row_below top row is = (position-Some (matches top) table row (group.Any, group.Any, group.Any, group.Any) is).0

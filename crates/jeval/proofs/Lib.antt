@@ -1,7 +1,9 @@
-pub mod Runs
+pub mod Making
+pub mod Turning
+pub mod Executing
+pub mod Stages
+pub mod Lines
+pub mod Kernels
 pub mod Classes
 pub mod Reading
-pub mod Turns
 pub mod Splitting
-pub mod Executes
-pub mod Lines

@@ -8,14 +8,17 @@ use Rattle.std.specs.Str.Parse.{AllDigits}
 use Rattle.jnumber.specs.Spelling.{Spells, digits_in, number_in}
 use Rattle.jnumber.specs.Reading.{IsReading}
 use Rattle.jnumber.specs.declared.reading.Read.TheVariants.{Wide, Not}
-use Rattle.jwords.specs.Numbers.{fits, is_decimal, is_number}
+use Rattle.jdata.specs.Fits.{is_within_64_bits}
+use Rattle.jwords.specs.Numbers.{is_decimal, is_number}
 use Rattle.jeval.specs.Constants.{number}
 
-pub fits_from : (z : ℤ) → FitsSigned w64 z → fits z ≡ true
+pub fits_from : (z : ℤ) → FitsSigned w64 z → is_within_64_bits z ≡ true
+unfolding is_within_64_bits
 fits_from (pos n) h = grind (arith, nat_tests)
 fits_from (negsuc n) h = grind (arith, nat_tests)
 
-pub fits_to : (z : ℤ) → fits z ≡ true → FitsSigned w64 z
+pub fits_to : (z : ℤ) → is_within_64_bits z ≡ true → FitsSigned w64 z
+unfolding is_within_64_bits
 fits_to (pos n) h = grind (arith, nat_tests)
 fits_to (negsuc n) h = grind (arith, nat_tests)
 
@@ -30,7 +33,7 @@ digits_to (d ∷ ds) h = (grind (arith, nat_tests), digits_to ds (grind (arith, 
 pub is_number_from : (run : List ℕ) (number : ℤ) → Spells run number → is_number run ≡ true
 is_number_from run number h =
     let all = digits_from (digits_in run) h.digits.1 in
-    let P : ℤ → Type 0 = λ z. fits z ≡ true in
+    let P : ℤ → Type 0 = λ z. is_within_64_bits z ≡ true in
     let inside = subst P h.value (fits_from number h.in_range) in
     let some : 0 < length (digits_in run) = h.digits.0 in
     grind (arith, nat_tests)

@@ -7,14 +7,11 @@ use Rattle.jdata.specs.declared.fault.Fault.TheVariants.{Domain, Value, Nonce, S
 use Rattle.jterm.specs.declared.term.Locative.{Locative}
 use Rattle.jterm.specs.declared.term.Term.{Term}
 use Rattle.jterm.specs.declared.term.Term.TheVariants as term
-use Rattle.juses.specs.Keys.{base_locale}
-use Rattle.juses.specs.Program.{Ask, ◌>>=◌}
 use Rattle.juses.specs.declared.uses.Reply.{Reply}
 use Rattle.juses.specs.declared.uses.Reply.TheVariants.{Done, Nothing, Named}
-use Rattle.juses.specs.declared.uses.Use.TheVariants.{Read}
-use Rattle.jeval.specs.Doing.{Does, fails, answers, and_then, with_turn}
+use Rattle.jeval.specs.Action.{Action, fails, answers, ◌then◌, with_turn}
+use Rattle.jeval.specs.Activity.{read}
 use Rattle.jeval.specs.Verbs.{primitive}
-use Rattle.jeval.specs.declared.state.State.{State}
 
 -- how many applications of verbs that aren't primitive may be nested
 abbrev pub most_levels : ℕ
@@ -29,21 +26,21 @@ verb_replied Nothing = Err Value
 verb_replied Done = Err Value
 
 -- the verb that a name has as its value when it is run
-abbrev pub sought : List ℕ → State → Does Term
-sought name s = Ask (Read base_locale name) (λ reply. answers (verb_replied reply) s)
+abbrev pub sought : List ℕ → Action Term
+sought name = read name then (λ reply. answers (verb_replied reply))
 
 -- the verb that a reference stands for; a name in a locale isn't built
-abbrev pub sought_in : Option (List ℕ) → List ℕ → State → Does Term
-sought_in None name s = sought name s
-sought_in (Some place) name s = fails Nonce s
+abbrev pub sought_in : Option (List ℕ) → List ℕ → Action Term
+sought_in None name = sought name
+sought_in (Some place) name = fails Nonce
 
-abbrev pub referred : Locative → State → Does Term
-referred reference s = sought_in reference.place reference.name s
+abbrev pub referred : Locative → Action Term
+referred reference = sought_in reference.place reference.name
 
 -- a verb on its arguments, with so many levels left. A primitive is applied at once. A reference takes a turn and a
 -- level, and what it stands for is applied in its place.
-unfoldable pub applied : ℕ → Term → Option Noun → Noun → State → Does Noun
-applied levels (term.Verb verb) x y s = answers (primitive verb x y) s
-applied levels (term.Noun v) x y s = fails Domain s
-applied zero (term.Name name) x y s = with_turn (fails Stack) s
-applied (suc levels) (term.Name name) x y s = with_turn (λ t. referred name t >>= and_then (λ verb u. applied levels verb x y u)) s
+unfoldable pub applied : ℕ → Term → Option Noun → Noun → Action Noun
+applied levels (term.Verb verb) x y = answers (primitive verb x y)
+applied levels (term.Noun v) x y = fails Domain
+applied zero (term.Name name) x y = with_turn (fails Stack)
+applied (suc levels) (term.Name name) x y = with_turn (referred name then (λ verb. applied levels verb x y))

@@ -1,24 +1,25 @@
 -- The execution of a sentence, from right to left (J Dictionary, "Parsing and Execution").
-use Rattle.std.specs.Prelude.{ℕ, zero, suc, ◌==◌, Bool, true, false, if◌then◌else◌, List, [], ◌∷◌, length, None}
-use Rattle.jdata.specs.declared.fault.Fault.TheVariants.{Syntax, TimeLimit}
+use Rattle.std.specs.Prelude.{ℕ, zero, suc, ◌==◌, Bool, true, false, if◌then◌else◌, List, [], ◌∷◌, Option, Some, None}
+use Rattle.jdata.specs.declared.fault.Fault.{Fault}
+use Rattle.jdata.specs.declared.fault.Fault.TheVariants.{Syntax, Nonce, TimeLimit}
 use Rattle.jterm.specs.declared.term.Locative.{Locative}
+use Rattle.jterm.specs.declared.term.Term.{Term}
 use Rattle.jterm.specs.declared.term.Term.TheVariants as term
-use Rattle.juses.specs.Keys.{base_locale}
-use Rattle.juses.specs.Program.{Ask, ◌>>=◌}
+use Rattle.juses.specs.Program.{◌>>=◌}
 use Rattle.juses.specs.declared.uses.Reply.{Reply}
 use Rattle.juses.specs.declared.uses.Reply.TheVariants as reply
-use Rattle.juses.specs.declared.uses.Use.TheVariants.{Read}
 use Rattle.jeval.specs.declared.part.Part.{Part}
 use Rattle.jeval.specs.declared.part.Part.TheVariants as part
 use Rattle.jeval.specs.declared.queue.Queued.{Queued}
 use Rattle.jeval.specs.declared.queue.Queued.TheVariants.{Ready, Named}
-use Rattle.jeval.specs.declared.state.State.{State}
-use Rattle.jeval.specs.declared.step.Act.{Act}
-use Rattle.jeval.specs.declared.step.Act.TheVariants as act
-use Rattle.jeval.specs.Doing.{Does, gives, fails, and_then}
-use Rattle.jeval.specs.Parsing.{act_of, class_at, is}
-use Rattle.jeval.specs.declared.part.Class.TheVariants as class
-use Rattle.jeval.specs.Rows.{acted}
+use Rattle.jeval.specs.declared.rows.Deed.{Deed}
+use Rattle.jeval.specs.declared.rows.Deed.TheVariants.{Apply, Assign, Leave, Refuse}
+use Rattle.jeval.specs.Action.{Action, Rest, gives, fails, going_on, ◌then◌, with_turn}
+use Rattle.jeval.specs.Activity.{read, written}
+use Rattle.jeval.specs.Applying.{applied}
+use Rattle.jeval.specs.Parsing.{row_at, top_of, is_whole, class_at, fits}
+use Rattle.jeval.specs.declared.parsing.Group.TheVariants as group
+use Rattle.jeval.specs.Rows.{filled, is_built, deed_of}
 
 abbrev pub plain_reference : List ℕ → Locative
 plain_reference name = record { name = name; place = None }
@@ -35,51 +36,73 @@ value_of name (reply.Named (term.Name other)) = reference_part name true
 value_of name reply.Nothing = reference_part name false
 value_of name reply.Done = reference_part name false
 
-abbrev pub moved_value : List ℕ → List Part → State → Does (List Part)
-moved_value name parts s = Ask (Read base_locale name) (λ reply. gives (value_of name reply ∷ parts) s)
+abbrev pub moved_value : List ℕ → List Part → Action (List Part)
+moved_value name parts = read name then (λ reply. gives (value_of name reply ∷ parts))
 
 -- a name in front of these parts: a target, where a copula comes next
-abbrev pub moved_name : List ℕ → List Part → State → Does (List Part)
-moved_name name parts s = if is class.Copula (class_at 0 parts) then gives (part.Target name ∷ parts) s else moved_value name parts s
+abbrev pub moved_name : List ℕ → List Part → Action (List Part)
+moved_name name parts = if fits group.Copula (class_at 0 parts) then gives (part.Target name ∷ parts) else moved_value name parts
 
 -- a word is read
-abbrev pub moved_in : Queued → List Part → State → Does (List Part)
-moved_in (Ready part) parts s = gives (part ∷ parts) s
-moved_in (Named name) parts s = moved_name name parts s
+abbrev pub moved_in : Queued → List Part → Action (List Part)
+moved_in (Ready part) parts = gives (part ∷ parts)
+moved_in (Named name) parts = moved_name name parts
+
+-- what a name can stand for: the value of a part
+abbrev pub term_of : Part → Option Term
+term_of (part.Noun value) = Some (term.Noun value)
+term_of (part.Verb verb found) = Some verb
+term_of other = None
+
+abbrev pub assigned : List ℕ → Option Term → Part → List Part → Action (List Part)
+assigned name (Some stands) value rest = written name stands then (λ reply. gives (value ∷ rest))
+assigned name None value rest = fails Syntax
+
+-- what a row asks for, with so many levels left
+abbrev pub done : ℕ → Deed → Action (List Part)
+done levels (Apply verb x y around) = applied levels verb x y then (λ value. gives (filled around value))
+done levels (Assign name value rest) = assigned name (term_of value) value rest
+done levels (Leave value rest) = gives (value ∷ rest)
+done levels (Refuse fault) = fails fault
+
+-- a row acts, with a turn; one that isn't built takes none
+unfoldable pub acted : ℕ → ℕ → List Part → Action (List Part)
+acted levels row parts = if is_built row then with_turn (done levels (deed_of row parts)) else fails Nonce
+
+-- the fault of a row for which no turn is left
+abbrev pub late : ℕ → Fault
+late row = if is_built row then TimeLimit else Nonce
 
 -- what is left at the end, and whether the last act was an assignment
 abbrev pub Ending : Type 0
 Ending = List Part × Bool
 
--- what happens where no word is read: a row acts, or the sentence ends
-abbrev pub acts_or_ends : Act → Ending → State → (ℕ → Does Ending) → Does Ending
-acts_or_ends (act.Row row) ending s acts = acts row
-acts_or_ends act.Done ending s acts = gives ending s
-acts_or_ends act.Syntax ending s acts = fails Syntax s
-acts_or_ends act.Shift ending s acts = fails Syntax s
+-- where no row acts and no word is left
+abbrev pub ended : List Part → Bool → Action Ending
+ended parts assigned = if is_whole (top_of parts) then gives (parts, assigned) else fails Syntax
 
-abbrev pub if_shift : Act → Does Ending → Does Ending → Does Ending
-if_shift act.Shift reads other = reads
-if_shift (act.Row row) reads other = other
-if_shift act.Done reads other = other
-if_shift act.Syntax reads other = other
+abbrev pub by_row : Option ℕ → (ℕ → Rest Ending) → Rest Ending → Rest Ending
+by_row (Some row) acts other = acts row
+by_row None acts other = other
 
 -- how a row acts, given the words that wait and the parts that were read
 abbrev pub Acts : Type 0
-Acts = ℕ → List Queued → List Part → State → Does Ending
+Acts = ℕ → List Queued → List Part → Action Ending
 
--- reads words until something else than reading happens
-abbrev pub read_on : Acts → List Queued → List Part → Bool → State → Does Ending
-read_on acts [] parts assigned s = acts_or_ends (act_of parts 0) (parts, assigned) s (λ row. acts row [] parts s)
+-- reads words until a row acts or none is left
+abbrev pub read_on : Acts → List Queued → List Part → Bool → Action Ending
+read_on acts [] parts assigned s = by_row (row_at parts) (λ row. acts row [] parts s) (ended parts assigned s)
 read_on acts (next ∷ queue) parts assigned s =
-    if_shift (act_of parts (suc (length queue)))
-    (moved_in next parts s >>= and_then (λ more t. read_on acts queue more assigned t))
-    (acts_or_ends (act_of parts (suc (length queue))) (parts, assigned) s (λ row. acts row (next ∷ queue) parts s))
+    by_row (row_at parts) (λ row. acts row (next ∷ queue) parts s) (moved_in next parts s >>= going_on (λ more. read_on acts queue more assigned))
 
 abbrev pub is_assignment : ℕ → Bool
 is_assignment row = row == 7
 
--- the sentence from here on. Each row that acts takes a turn, so there are at most as many as there were turns.
-unfoldable pub execute : ℕ → List Queued → List Part → Bool → State → Does Ending
-execute zero = read_on (λ row queue parts s. acted row parts s >>= and_then (λ more t. fails TimeLimit t))
-execute (suc rows) = read_on (λ row queue parts s. acted row parts s >>= and_then (λ more t. execute rows queue more (is_assignment row) t))
+-- the sentence from here on, with at most so many rows. Each row that acts takes a turn.
+unfoldable pub executed_within : ℕ → ℕ → List Queued → List Part → Bool → Action Ending
+executed_within levels zero = read_on (λ row queue parts. fails (late row))
+executed_within levels (suc rows) = read_on (λ row queue parts. acted levels row parts then (λ more. executed_within levels rows queue more (is_assignment row)))
+
+-- the sentence from here on: as many rows may act as there are turns
+unfoldable pub executed : ℕ → List Queued → List Part → Bool → Action Ending
+executed levels queue parts assigned s = executed_within levels s.left queue parts assigned s

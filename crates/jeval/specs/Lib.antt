@@ -1,11 +1,13 @@
-pub mod Doing
+pub mod Action
+pub mod Activity
 pub mod Made
 pub mod Verbs
 pub mod Applying
 pub mod Parsing
 pub mod Rows
 pub mod Constants
-pub mod Built
+pub mod Queue
 pub mod Execution
 pub mod Showing
-pub mod Session
+pub mod Sentence
+pub mod Eval

@@ -1,43 +1,30 @@
--- What the rows of the parsing table do (J Dictionary, "Parsing and Execution").
+-- What the rows of the parsing table ask for (J Dictionary, "Parsing and Execution"). A row is plain data made of the
+-- parts alone; whoever executes the sentence does what it asks.
 use Rattle.std.specs.Prelude.{ℕ, ◌==◌, ◌||◌, Bool, if◌then◌else◌, List, [], ◌∷◌, Option, Some, None, Result, Ok, Err}
 use Rattle.jdata.specs.declared.fault.Fault.{Fault}
+use Rattle.jdata.specs.declared.fault.Fault.TheVariants.{Domain, Syntax, Nonce}
 use Rattle.jdata.specs.Noun.{kind}
 use Rattle.jdata.specs.declared.noun.Kind.{Kind}
 use Rattle.jdata.specs.declared.noun.Kind.TheVariants as sort
 use Rattle.jdata.specs.declared.noun.Noun.{Noun}
-use Rattle.jdata.specs.declared.fault.Fault.TheVariants.{Domain, Syntax, Nonce}
 use Rattle.jterm.specs.declared.term.Term.{Term}
-use Rattle.jterm.specs.declared.term.Term.TheVariants as term
-use Rattle.juses.specs.Keys.{base_locale}
-use Rattle.juses.specs.Program.{Ask, ◌>>=◌}
-use Rattle.juses.specs.declared.uses.Use.TheVariants.{Write}
-use Rattle.jeval.specs.Doing.{Does, gives, fails, answers, and_then, with_turn}
-use Rattle.jeval.specs.Applying.{applied, most_levels}
 use Rattle.jeval.specs.declared.part.Part.{Part}
 use Rattle.jeval.specs.declared.part.Part.TheVariants as part
-use Rattle.jeval.specs.declared.state.State.{State}
+use Rattle.jeval.specs.declared.rows.Around.{Around}
+use Rattle.jeval.specs.declared.rows.Deed.{Deed}
+use Rattle.jeval.specs.declared.rows.Deed.TheVariants.{Apply, Assign, Leave, Refuse}
 
--- the top three parts, and those behind them
-abbrev pub first_three : List Part → Option (Part × Part × Part × List Part)
-first_three (a ∷ b ∷ c ∷ rest) = Some (a, b, c, rest)
-first_three other = None
+-- the parts that stay where the others act: one or two in front of them, and those behind
+abbrev pub around : Part → Option Part → List Part → Around
+around first second rest = record { first = first; second = second; rest = rest }
 
-abbrev pub Three : Type 0
-Three = Part → Part → Part → List Part → State → Does (List Part)
+abbrev pub behind : Option Part → List Part → List Part
+behind (Some second) rest = second ∷ rest
+behind None rest = rest
 
--- what a row does with the top three parts
-abbrev pub with_three : Three → Option (Part × Part × Part × List Part) → State → Does (List Part)
-with_three row (Some (a, b, c, rest)) s = row a b c rest s
-with_three row None s = fails Syntax s
-
--- what a row does with the parts behind the first, which stays
-abbrev pub behind_first : (List Part → State → Does (List Part)) → List Part → State → Does (List Part)
-behind_first row (left ∷ parts) s = row parts s >>= and_then (λ more t. gives (left ∷ more) t)
-behind_first row [] s = fails Syntax s
-
--- the value of an application, put where its parts stood
-abbrev pub puts : Does Noun → (Noun → List Part) → Does (List Part)
-puts application parts = application >>= and_then (λ value t. gives (parts value) t)
+-- with a value where the others stood
+abbrev pub filled : Around → Noun → List Part
+filled a value = a.first ∷ behind a.second (part.Noun value ∷ a.rest)
 
 abbrev pub verb_in : Part → Option Term
 verb_in (part.Verb verb found) = Some verb
@@ -57,31 +44,15 @@ abbrev pub operands : Part → Part → Option (Term × Noun)
 operands verb y = both (verb_in verb) (noun_in y)
 
 -- a verb on what follows it
-abbrev pub monad_with : Option (Term × Noun) → Part → List Part → State → Does (List Part)
-monad_with (Some (verb, y)) edge rest s = puts (applied most_levels verb None y s) (λ value. edge ∷ part.Noun value ∷ rest)
-monad_with None edge rest s = fails Syntax s
-
-abbrev pub monad_of : Three
-monad_of edge verb y rest s = monad_with (operands verb y) edge rest s
+abbrev pub monad : Option (Term × Noun) → Around → Deed
+monad (Some (verb, y)) a = Apply verb None y a
+monad None a = Refuse Syntax
 
 -- a verb between two nouns
-abbrev pub dyad_with : Option Noun → Option (Term × Noun) → List Part → State → Does (List Part)
-dyad_with (Some x) (Some (verb, y)) rest s = puts (applied most_levels verb (Some x) y s) (λ value. part.Noun value ∷ rest)
-dyad_with (Some x) None rest s = fails Syntax s
-dyad_with None operands rest s = fails Syntax s
-
-abbrev pub dyad_of : Three
-dyad_of x verb y rest s = dyad_with (noun_in x) (operands verb y) rest s
-
--- what a name can stand for: the value of a part
-abbrev pub term_of : Part → Option Term
-term_of (part.Noun value) = Some (term.Noun value)
-term_of (part.Verb verb found) = Some verb
-term_of other = None
-
-abbrev pub assigns : List ℕ → Part → List Part → State → Option Term → Does (List Part)
-assigns name value rest s (Some stands) = Ask (Write base_locale name stands) (λ reply. gives (value ∷ rest) s)
-assigns name value rest s None = fails Syntax s
+abbrev pub dyad : Option Noun → Option (Term × Noun) → Around → Deed
+dyad (Some x) (Some (verb, y)) a = Apply verb (Some x) y a
+dyad (Some x) None a = Refuse Syntax
+dyad None operands a = Refuse Syntax
 
 -- a quoted target isn't built, and another noun can't be one
 abbrev pub noun_as_target : Kind → Fault
@@ -96,36 +67,46 @@ target_name (part.Noun target) = Err (noun_as_target (kind target))
 target_name other = Err Syntax
 
 -- a name gets a value, which stays as the value of the assignment
-abbrev pub assigns_to : Result (List ℕ) Fault → Part → List Part → State → Does (List Part)
-assigns_to (Ok name) value rest s = assigns name value rest s (term_of value)
-assigns_to (Err fault) value rest s = fails fault s
+abbrev pub assignment : Result (List ℕ) Fault → Part → List Part → Deed
+assignment (Ok name) value rest = Assign name value rest
+assignment (Err fault) value rest = Refuse fault
 
-abbrev pub assignment_of : Three
-assignment_of target _ value rest s = assigns_to (target_name target) value rest s
+-- the top three parts, and those behind them
+abbrev pub first_three : List Part → Option (Part × Part × Part × List Part)
+first_three (a ∷ b ∷ c ∷ rest) = Some (a, b, c, rest)
+first_three other = None
+
+abbrev pub of_three : (Part → Part → Part → List Part → Deed) → Option (Part × Part × Part × List Part) → Deed
+of_three row (Some (a, b, c, rest)) = row a b c rest
+of_three row None = Refuse Syntax
+
+abbrev pub monad_row : List Part → Deed
+monad_row parts = of_three (λ edge verb y rest. monad (operands verb y) (around edge None rest)) (first_three parts)
+
+abbrev pub inner_monad_row : List Part → Deed
+inner_monad_row [] = Refuse Syntax
+inner_monad_row (first ∷ parts) = of_three (λ second verb y rest. monad (operands verb y) (around first (Some second) rest)) (first_three parts)
+
+abbrev pub dyad_row : List Part → Deed
+dyad_row [] = Refuse Syntax
+dyad_row (first ∷ parts) = of_three (λ x verb y rest. dyad (noun_in x) (operands verb y) (around first None rest)) (first_three parts)
+
+abbrev pub assignment_row : List Part → Deed
+assignment_row parts = of_three (λ target copula value rest. assignment (target_name target) value rest) (first_three parts)
 
 -- what stands alone between parentheses takes their place
-abbrev pub without_parentheses : Option (Part × Part × Part × List Part) → Result (List Part) Fault
-without_parentheses (Some (_, value, _, rest)) = Ok (value ∷ rest)
-without_parentheses None = Err Syntax
-
-abbrev pub parenthesized : List Part → Result (List Part) Fault
-parenthesized parts = without_parentheses (first_three parts)
-
-abbrev pub by_three : Three → List Part → State → Does (List Part)
-by_three row parts s = with_three row (first_three parts) s
+abbrev pub parenthesis_row : List Part → Deed
+parenthesis_row parts = of_three (λ left value right rest. Leave value rest) (first_three parts)
 
 -- the rows that are built; those of modifiers and trains aren't
 abbrev pub is_built : ℕ → Bool
 is_built row = row == 0 || row == 1 || row == 2 || row == 7 || row == 8
 
--- what a row makes of the parts
-abbrev pub built_row : ℕ → List Part → State → Does (List Part)
-built_row row parts s =
-    if row == 0 then by_three monad_of parts s else
-    if row == 1 then behind_first (by_three monad_of) parts s else
-    if row == 2 then behind_first (by_three dyad_of) parts s else
-    if row == 7 then by_three assignment_of parts s else answers (parenthesized parts) s
-
--- with a turn; a row that isn't built takes none
-abbrev pub acted : ℕ → List Part → State → Does (List Part)
-acted row parts s = if is_built row then with_turn (built_row row parts) s else fails Nonce s
+-- what a row that is built asks for
+unfoldable pub deed_of : ℕ → List Part → Deed
+deed_of row parts =
+    if row == 0 then monad_row parts else
+    if row == 1 then inner_monad_row parts else
+    if row == 2 then dyad_row parts else
+    if row == 7 then assignment_row parts else
+    if row == 8 then parenthesis_row parts else Refuse Nonce

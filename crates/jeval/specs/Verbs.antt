@@ -1,22 +1,23 @@
--- The primitive verbs that are built (J Dictionary, "Vocabulary"): the scalar ones. What an application gives, or its fault;
--- an application of which nothing is built is a nonce error.
-use Rattle.std.specs.Prelude.{if◌then◌else◌, Option, Some, None, Result, Err}
+-- The primitive verbs by the table of primitives: with a left argument or without.
+use Rattle.std.specs.Prelude.{◌||◌, Bool, is_some, Option, Some, None, Result}
 use Rattle.jdata.specs.declared.noun.Noun.{Noun}
 use Rattle.jdata.specs.declared.primitive.Primitive.{Primitive}
 use Rattle.jdata.specs.declared.fault.Fault.{Fault}
-use Rattle.jdata.specs.declared.fault.Fault.TheVariants.{Nonce}
-use Rattle.jscalar.specs.Monads.{is_scalar_monad}
-use Rattle.jscalar.specs.Dyads.{is_scalar_dyad}
-use Rattle.jmono.specs.Monads.{scalar_monad}
-use Rattle.jdyad.specs.Dyads.{scalar_dyad}
+use Rattle.jprim.specs.Monads as monads
+use Rattle.jprim.specs.Dyads as dyads
+use Rattle.jscalar.specs.Monads.{monad_on}
+use Rattle.jscalar.specs.Dyads.{dyad_on}
+
+-- the scalar verbs are built
+abbrev pub is_built : Primitive → Bool
+is_built verb = is_some (monad_on verb) || is_some (dyad_on verb)
 
 abbrev pub monad : Primitive → Noun → Result Noun Fault
-monad verb y = if is_scalar_monad verb then scalar_monad verb y else Err Nonce
+monad verb y = monads.given (monads.monad_of verb) y
 
 abbrev pub dyad : Primitive → Noun → Noun → Result Noun Fault
-dyad verb x y = if is_scalar_dyad verb then scalar_dyad verb x y else Err Nonce
+dyad verb x y = dyads.given (dyads.dyad_of verb) x y
 
--- with a left argument or without
 abbrev pub primitive : Primitive → Option Noun → Noun → Result Noun Fault
 primitive verb None y = monad verb y
 primitive verb (Some x) y = dyad verb x y

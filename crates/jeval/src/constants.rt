@@ -4,6 +4,7 @@ ghost use Rattle.jdata.specs.Limits.{checked};
 ghost use Rattle.jdata.specs.Trees.{noun_of};
 ghost use Rattle.jeval.specs.Constants as constants;
 
+use crate::datum::Datum;
 use jarray::Array;
 use jdata::{Bytes, IntList, Leaves, NoMemory, Tree};
 use jnumber::{Read, read};
@@ -59,20 +60,20 @@ fn numbers(alloc: Global, word: &[u8]) -> Result<Option<Vec<i64>>, NoMemory>
     }
 }
 
-fn array(shape: Vec<u64>, items: Leaves) -> Option<Array>
+fn array(shape: Vec<u64>, items: Leaves) -> Option<Datum>
     ensures { result ≡ constants.if_array (checked (noun_of shape.items items)) }
 {
     match Tree::new(shape, items) {
-        Ok(tree) => Some(Array::of(tree)),
+        Ok(tree) => Some(Datum::of(Array::of(tree))),
         Err(_) => None,
     }
 }
 
-fn integers(alloc: Global, numbers: Vec<i64>) -> Result<Option<Array>, NoMemory>
+fn integers(alloc: Global, numbers: Vec<i64>) -> Result<Option<Datum>, NoMemory>
     ensures { IfOk result (λ array. array ≡ constants.integers numbers.items) }
 {
     if let [number] = numbers.as_slice() {
-        return Ok(Some(Array::atom(*number)));
+        return Ok(Some(Datum::of(Array::atom(*number))));
     }
     match Vec::from_slice(alloc, &[numbers.len() as u64]) {
         Ok(shape) => Ok(array(shape, Leaves::Int(IntList::of(numbers)))),
@@ -81,7 +82,7 @@ fn integers(alloc: Global, numbers: Vec<i64>) -> Result<Option<Array>, NoMemory>
 }
 
 /// The noun of a word of numbers, where each of its runs is a number.
-pub(crate) fn number_noun(alloc: Global, word: &[u8]) -> Result<Option<Array>, NoMemory>
+pub(crate) fn number_noun(alloc: Global, word: &[u8]) -> Result<Option<Datum>, NoMemory>
     ensures { IfOk result (λ noun. noun ≡ constants.number_noun word.now) }
 {
     match numbers(alloc, word) {
@@ -133,7 +134,7 @@ fn inside(word: &[u8]) -> &[u8]
 }
 
 /// The noun of a quoted text.
-pub(crate) fn text_noun(alloc: Global, word: &[u8]) -> Result<Option<Array>, NoMemory>
+pub(crate) fn text_noun(alloc: Global, word: &[u8]) -> Result<Option<Datum>, NoMemory>
     ensures { IfOk result (λ noun. noun ≡ constants.text_noun word.now) }
 {
     let Ok(bytes) = characters(alloc, inside(word)) else {

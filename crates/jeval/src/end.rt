@@ -9,3 +9,6 @@ pub enum EvalEnd {
     Fault(Fault),
     Halt(Halt),
 }
+
+/// What want of memory is to an evaluation.
+pub(crate) const NO_MEMORY: EvalEnd = EvalEnd::Halt(Halt::NoMemory);

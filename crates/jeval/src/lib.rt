@@ -1,26 +1,32 @@
 //! Sentences: the words of a line, executed from right to left, with the uses that they make.
 #![tactic(auto)]
 
+mod activity;
 mod applying;
 mod constants;
+mod datum;
 mod end;
 mod eval;
+mod execution;
+mod laws;
+mod parsing;
 mod part;
-mod printing;
 mod queue;
 mod rows;
-mod running;
+mod sentence;
+mod showing;
 mod stack;
 mod state;
-mod step;
-mod valence;
 mod verbs;
 
+pub use datum::Datum;
 pub use end::EvalEnd;
-pub use eval::{Eval, LINE_LIMIT, Shown};
+pub use eval::Eval;
+pub use laws::execution_law;
+pub use parsing::{Act, Class, Group};
 pub use part::Part;
+pub use sentence::{LINE_LIMIT, Shown};
 pub use state::State;
-pub use step::Act;
 
 #[cfg(test)]
 mod tests;

@@ -1,6 +1,7 @@
 //! Parts of a sentence.
 
-use jarray::Array;
+use crate::datum::Datum;
+use crate::parsing::Class;
 use jdata::Name;
 use jterm::Term;
 
@@ -22,19 +23,7 @@ pub enum Part {
         /// Whether it had a value when it was moved, where it is a reference.
         found: bool,
     },
-    Noun(Array),
-}
-
-/// What the parsing table asks of a part.
-#[derive(Clone, Copy, Debug, PartialEq, Eq)]
-pub enum Class {
-    Mark,
-    Copula,
-    Left,
-    Right,
-    Target,
-    Verb,
-    Noun,
+    Noun(Datum),
 }
 
 impl Part {

@@ -1,12 +1,13 @@
 //! The words of a sentence as they wait to be moved.
 ghost use Rattle.std.specs.Prelude.{◌≡◌, ◌-◌, IfOk, Some, take, drop};
-ghost use Rattle.jeval.specs.Built as built;
+ghost use Rattle.jeval.specs.Queue as queues;
 ghost use Rattle.jeval.specs.declared.queue.Queued.TheVariants.{Named as named};
 
 use crate::constants::{number_noun, text_noun};
+use crate::datum::Datum;
 use crate::part::Part;
 use crate::stack::Stack;
-use jarray::Array;
+use crate::verbs::is_built;
 use jdata::{Name, NoMemory, Primitive};
 use jterm::Term;
 use jwords::{Word, WordKind};
@@ -20,85 +21,23 @@ pub(crate) enum Queued {
     Named(Name),
 }
 
-// The scalar verb of a graphic character that stands alone.
-fn plain_verb(byte: u8) -> Option<Primitive>
-    ensures { result ≡ built.plain_verb byte }
-{
-    match byte {
-        b'+' => Some(Primitive::Plus),
-        b'-' => Some(Primitive::Minus),
-        b'*' => Some(Primitive::Times),
-        b'%' => Some(Primitive::Divide),
-        b'|' => Some(Primitive::Bar),
-        b'^' => Some(Primitive::Power),
-        b'!' => Some(Primitive::Bang),
-        b'<' => Some(Primitive::Less),
-        b'>' => Some(Primitive::Greater),
-        b'=' => Some(Primitive::Equal),
-        _ => None,
-    }
-}
-
-// The same with a point behind the character.
-fn pointed_verb(byte: u8) -> Option<Primitive>
-    ensures { result ≡ built.pointed_verb byte }
-{
-    match byte {
-        b'+' => Some(Primitive::PlusDot),
-        b'*' => Some(Primitive::TimesDot),
-        b'-' => Some(Primitive::MinusDot),
-        b'<' => Some(Primitive::LessDot),
-        b'>' => Some(Primitive::GreaterDot),
-        _ => None,
-    }
-}
-
-// The same with a colon.
-fn colon_verb(byte: u8) -> Option<Primitive>
-    ensures { result ≡ built.colon_verb byte }
-{
-    match byte {
-        b'+' => Some(Primitive::PlusColon),
-        b'*' => Some(Primitive::TimesColon),
-        b'-' => Some(Primitive::MinusColon),
-        b'%' => Some(Primitive::DivideColon),
-        b'<' => Some(Primitive::LessColon),
-        b'>' => Some(Primitive::GreaterColon),
-        b'~' => Some(Primitive::TildeColon),
-        _ => None,
-    }
-}
-
-fn inflected_verb(byte: u8, inflection: u8) -> Option<Primitive>
-    ensures { result ≡ built.inflected_verb byte inflection }
-{
-    if inflection == b'.' {
-        pointed_verb(byte)
-    } else if inflection == b':' {
-        colon_verb(byte)
-    } else {
-        None
-    }
-}
-
 fn verb_of(run: &[u8]) -> Option<Primitive>
-    ensures { result ≡ built.verb_of run.now }
+    ensures { result ≡ queues.verb_of run.now }
 {
-    match run {
-        [byte] => plain_verb(*byte),
-        [byte, inflection] => inflected_verb(*byte, *inflection),
+    match Primitive::of(run) {
+        Some(verb) if is_built(verb) => Some(verb),
         _ => None,
     }
 }
 
 fn is_copula(run: &[u8]) -> bool
-    ensures { result ≡ built.is_copula run.now }
+    ensures { result ≡ queues.is_copula run.now }
 {
     run == b"=.".as_slice() || run == b"=:".as_slice()
 }
 
 fn verb_part(verb: Primitive) -> Queued
-    ensures { Some result ≡ built.verb_part (Some verb) }
+    ensures { Some result ≡ queues.verb_part (Some verb) }
 {
     Queued::Ready(Part::Verb {
         term: Term::Verb(verb),
@@ -107,7 +46,7 @@ fn verb_part(verb: Primitive) -> Queued
 }
 
 fn symbol(run: &[u8]) -> Option<Queued>
-    ensures { result ≡ built.symbol run.now }
+    ensures { result ≡ queues.symbol run.now }
 {
     if is_copula(run) {
         Some(Queued::Ready(Part::Copula))
@@ -123,8 +62,8 @@ fn symbol(run: &[u8]) -> Option<Queued>
     }
 }
 
-fn noun_part(noun: Option<Array>) -> Option<Queued>
-    ensures { result ≡ built.noun_part noun }
+fn noun_part(noun: Option<Datum>) -> Option<Queued>
+    ensures { result ≡ queues.noun_part noun }
 {
     match noun {
         Some(noun) => Some(Queued::Ready(Part::Noun(noun))),
@@ -134,7 +73,7 @@ fn noun_part(noun: Option<Array>) -> Option<Queued>
 
 // Whether another byte than an underscore stands behind.
 fn is_followed(behind: &[u8]) -> bool
-    ensures { result ≡ built.is_followed behind.now }
+    ensures { result ≡ queues.is_followed behind.now }
 {
     match behind.first() {
         Some(byte) => *byte != b'_',
@@ -144,13 +83,13 @@ fn is_followed(behind: &[u8]) -> bool
 
 // An underscore needs another byte behind it.
 fn may_stand(byte: u8, behind: &[u8]) -> bool
-    ensures { result ≡ built.may_stand byte behind.now }
+    ensures { result ≡ queues.may_stand byte behind.now }
 {
     byte != b'_' || is_followed(behind)
 }
 
 fn is_plain(name: &[u8]) -> bool
-    ensures { result ≡ built.is_plain name.now }
+    ensures { result ≡ queues.is_plain name.now }
 {
     for (i, byte) in name.iter().enumerate() {
         if !may_stand(*byte, &name[i + 1..]) {
@@ -171,7 +110,7 @@ fn name(alloc: Global, run: &[u8]) -> Result<Queued, NoMemory>
 
 // A plain name; another name isn't built.
 fn name_item(alloc: Global, run: &[u8]) -> Result<Option<Queued>, NoMemory>
-    ensures { IfOk result (λ item. item ≡ built.name_item run.now) }
+    ensures { IfOk result (λ item. item ≡ queues.name_item run.now) }
 {
     if !is_plain(run) {
         return Ok(None);
@@ -182,8 +121,8 @@ fn name_item(alloc: Global, run: &[u8]) -> Result<Option<Queued>, NoMemory>
     }
 }
 
-fn noun_item(noun: Result<Option<Array>, NoMemory>) -> Result<Option<Queued>, NoMemory>
-    ensures { built.IsItem noun result }
+fn noun_item(noun: Result<Option<Datum>, NoMemory>) -> Result<Option<Queued>, NoMemory>
+    ensures { queues.IsItem noun result }
 {
     match noun {
         Ok(noun) => Ok(noun_part(noun)),
@@ -193,7 +132,7 @@ fn noun_item(noun: Result<Option<Array>, NoMemory>) -> Result<Option<Queued>, No
 
 // What a word is, where it is built.
 fn item_of(alloc: Global, kind: WordKind, run: &[u8]) -> Result<Option<Queued>, NoMemory>
-    ensures { IfOk result (λ item. item ≡ built.built kind run.now) }
+    ensures { IfOk result (λ item. item ≡ queues.item_of kind run.now) }
 {
     match kind {
         WordKind::Name => name_item(alloc, run),
@@ -215,7 +154,7 @@ fn between(line: &[u8], start: usize, end: usize) -> &[u8]
 }
 
 fn is_comment(kind: WordKind) -> bool
-    ensures { result ≡ built.is_comment kind }
+    ensures { result ≡ queues.is_comment kind }
 {
     kind == WordKind::Comment
 }
@@ -226,7 +165,7 @@ pub(crate) fn queue(
     line: &[u8],
     words: &[Word],
 ) -> Result<Option<Stack<Queued>>, NoMemory>
-    ensures { IfOk result (λ queue. queue ≡ built.queue_of line.now words.now) }
+    ensures { IfOk result (λ queue. queue ≡ queues.queue_of line.now words.now) }
 {
     let mut queue = Stack::new(alloc);
     if queue.push(Queued::Ready(Part::Mark)).is_err() {

@@ -1,60 +1,66 @@
-//! What the rows of the parsing table do.
-ghost use Rattle.std.specs.Prelude.{◌≡◌, ◌<◌, ◌≤◌, ◌∷◌, IfOk, OnOk, Some};
-ghost use Rattle.juses.specs.Keys.{base_locale};
-ghost use Rattle.juses.specs.Program.{Ask, Return};
-ghost use Rattle.juses.specs.declared.uses.Use.TheVariants as asked;
-ghost use Rattle.jeval.specs.Made.{Runs, Makes, Gives, Answers};
+//! What the rows of the parsing table ask for. A row makes no use and applies nothing: so what executes a sentence is
+//! one loop over plain data, and the functions that call each other stay few.
+ghost use Rattle.std.specs.Prelude.{◌≡◌, ◌∷◌, OnOk};
 ghost use Rattle.jeval.specs.Rows as rows;
+ghost use Rattle.jeval.specs.Made.{Gives};
 ghost use Rattle.jeval.specs.declared.part.Part.TheVariants as part;
-ghost use Rattle.jeval.specs.declared.state.State.{State};
 
-use crate::applying::{Activity, MOST_LEVELS, NO_MEMORY, apply, base, take_turn, tell};
+use crate::datum::Datum;
 use crate::end::EvalEnd;
 use crate::part::Part;
-use crate::stack::Stack;
-use crate::state::State;
-use jarray::{Array, Room};
-use jdata::{Fault, Kind, Name, NoMemory};
+use crate::stack::{Parts, pushed};
+use jarray::Room;
+use jdata::{Fault, Kind, Name};
 use jterm::Term;
-use juses::{Halt, Use, Uses};
 
-/// The parts that were read, the one that was read last in front.
-pub(crate) type Parts = Stack<Part>;
-
-const SYNTAX: EvalEnd = EvalEnd::Fault(Fault::Syntax);
-
-fn first_three(mut parts: Parts) -> Option<(Part, Part, Part, Parts)>
-    ensures { result ≡ rows.first_three parts }
-{
-    let Some(a) = parts.pop() else {
-        return None;
-    };
-    let Some(b) = parts.pop() else {
-        return None;
-    };
-    let Some(c) = parts.pop() else {
-        return None;
-    };
-    Some((a, b, c, parts))
+/// The parts that stay where others act.
+#[derive(Drop)]
+pub(crate) struct Around {
+    pub(crate) first: Part,
+    pub(crate) second: Option<Part>,
+    pub(crate) rest: Parts,
 }
 
-/// Puts a part in front of the others.
-pub(crate) fn push(mut parts: Parts, part: Part) -> Result<Parts, EvalEnd>
-    ensures { Gives (part ∷ parts) result }
-{
-    match parts.push(part) {
-        Ok(()) => Ok(parts),
-        Err(NoMemory) => Err(NO_MEMORY),
-    }
+/// What a row asks for.
+#[derive(Drop)]
+pub(crate) enum Deed {
+    /// The value of a verb on its arguments, to be put where they stood.
+    Apply {
+        verb: Term,
+        x: Option<Datum>,
+        y: Datum,
+        around: Around,
+    },
+    /// A name stands for a part from now on, which stays in front of the others.
+    Assign {
+        name: Name,
+        value: Part,
+        rest: Parts,
+    },
+    /// This part in front of the others, and nothing else.
+    Leave {
+        value: Part,
+        rest: Parts,
+    },
+    Refuse(Fault),
 }
 
-// Puts a value and what stood left of it back.
-fn put(parts: Parts, value: Array, left: Part) -> Result<Parts, EvalEnd>
-    ensures { Gives (left ∷ part.Noun value ∷ parts) result }
-{
-    match push(parts, Part::Noun(value)) {
-        Ok(parts) => push(parts, left),
-        Err(end) => Err(end),
+impl Around {
+    /// The parts with this value where the others stood.
+    pub(crate) fn filled(self, value: Datum) -> Result<Parts, EvalEnd>
+        ensures { Gives (rows.filled self value) result }
+    {
+        let Around {
+            first,
+            second,
+            rest,
+        } = self;
+        let rest = pushed(rest, Part::Noun(value))?;
+        let rest = match second {
+            Some(second) => pushed(rest, second)?,
+            None => rest,
+        };
+        pushed(rest, first)
     }
 }
 
@@ -67,7 +73,7 @@ fn verb_in(part: Part) -> Option<Term>
     }
 }
 
-fn noun_in(part: Part) -> Option<Array>
+fn noun_in(part: Part) -> Option<Datum>
     ensures { result ≡ rows.noun_in part }
 {
     match part {
@@ -77,7 +83,7 @@ fn noun_in(part: Part) -> Option<Array>
 }
 
 // A verb and the noun behind it.
-fn operands(verb: Part, y: Part) -> Option<(Term, Array)>
+fn operands(verb: Part, y: Part) -> Option<(Term, Datum)>
     ensures { result ≡ rows.operands verb y }
 {
     match verb_in(verb) {
@@ -89,192 +95,97 @@ fn operands(verb: Part, y: Part) -> Option<(Term, Array)>
     }
 }
 
-// The value of a verb on one noun stands behind the edge.
-fn monad<U: Uses>(
-    uses: &mut U,
-    by: &Activity,
-    state: &mut State,
-    verb: Term,
-    y: Array,
-    edge: Part,
-    rest: Parts,
-) -> Result<Parts, EvalEnd>
-    ensures makes { Makes U.leads U.refuses by.now.who uses.old uses.new (rows.monad_with (Some (verb, y)) edge rest state.old) result state.new }
-    ensures turns { state.new.left ≤ state.old.left }
+fn first_three(mut parts: Parts) -> Option<(Part, Part, Part, Parts)>
+    ensures { result ≡ rows.first_three parts }
 {
-    match apply(uses, by, state, MOST_LEVELS, verb, None, y) {
-        Ok(value) => put(rest, value, edge),
-        Err(end) => Err(end),
+    let first = parts.pop()?;
+    let second = parts.pop()?;
+    let third = parts.pop()?;
+    Some((first, second, third, parts))
+}
+
+fn monad(operands: Option<(Term, Datum)>, around: Around) -> Deed
+    ensures { result ≡ rows.monad operands around }
+{
+    match operands {
+        Some((verb, y)) => Deed::Apply {
+            verb,
+            x: None,
+            y,
+            around,
+        },
+        None => Deed::Refuse(Fault::Syntax),
     }
 }
 
-fn monad_row<U: Uses>(
-    uses: &mut U,
-    by: &Activity,
-    state: &mut State,
-    parts: Parts,
-) -> Result<Parts, EvalEnd>
-    ensures makes { Makes U.leads U.refuses by.now.who uses.old uses.new (rows.by_three rows.monad_of parts state.old) result state.new }
-    ensures turns { state.new.left ≤ state.old.left }
+fn dyad(x: Option<Datum>, operands: Option<(Term, Datum)>, around: Around) -> Deed
+    ensures { result ≡ rows.dyad x operands around }
+{
+    match x {
+        Some(x) => match operands {
+            Some((verb, y)) => Deed::Apply {
+                verb,
+                x: Some(x),
+                y,
+                around,
+            },
+            None => Deed::Refuse(Fault::Syntax),
+        },
+        None => Deed::Refuse(Fault::Syntax),
+    }
+}
+
+fn monad_row(parts: Parts) -> Deed
+    ensures { result ≡ rows.monad_row parts }
 {
     match first_three(parts) {
-        Some((edge, verb, y, rest)) => match operands(verb, y) {
-            Some((verb, y)) => monad(uses, by, state, verb, y, edge, rest),
-            None => Err(SYNTAX),
-        },
-        None => Err(SYNTAX),
+        Some((first, verb, y, rest)) => {
+            let around = Around {
+                first,
+                second: None,
+                rest,
+            };
+            monad(operands(verb, y), around)
+        }
+        None => Deed::Refuse(Fault::Syntax),
     }
 }
 
-// The value of a verb on two nouns stands in their place.
-fn dyad<U: Uses>(
-    uses: &mut U,
-    by: &Activity,
-    state: &mut State,
-    x: Array,
-    verb: Term,
-    y: Array,
-    rest: Parts,
-) -> Result<Parts, EvalEnd>
-    ensures makes { Makes U.leads U.refuses by.now.who uses.old uses.new (rows.dyad_with (Some x) (Some (verb, y)) rest state.old) result state.new }
-    ensures turns { state.new.left ≤ state.old.left }
+fn inner_monad_row(mut parts: Parts) -> Deed
+    ensures { result ≡ rows.inner_monad_row parts }
 {
-    match apply(uses, by, state, MOST_LEVELS, verb, Some(x), y) {
-        Ok(value) => push(rest, Part::Noun(value)),
-        Err(end) => Err(end),
-    }
-}
-
-fn dyad_of<U: Uses>(
-    uses: &mut U,
-    by: &Activity,
-    state: &mut State,
-    x: Part,
-    verb: Part,
-    y: Part,
-    rest: Parts,
-) -> Result<Parts, EvalEnd>
-    ensures makes { Makes U.leads U.refuses by.now.who uses.old uses.new (rows.dyad_of x verb y rest state.old) result state.new }
-    ensures turns { state.new.left ≤ state.old.left }
-{
-    match noun_in(x) {
-        Some(x) => match operands(verb, y) {
-            Some((verb, y)) => dyad(uses, by, state, x, verb, y, rest),
-            None => Err(SYNTAX),
-        },
-        None => Err(SYNTAX),
-    }
-}
-
-fn dyad_row<U: Uses>(
-    uses: &mut U,
-    by: &Activity,
-    state: &mut State,
-    parts: Parts,
-) -> Result<Parts, EvalEnd>
-    ensures makes { Makes U.leads U.refuses by.now.who uses.old uses.new (rows.by_three rows.dyad_of parts state.old) result state.new }
-    ensures turns { state.new.left ≤ state.old.left }
-{
+    let Some(first) = parts.pop() else {
+        return Deed::Refuse(Fault::Syntax);
+    };
     match first_three(parts) {
-        Some((x, verb, y, rest)) => dyad_of(uses, by, state, x, verb, y, rest),
-        None => Err(SYNTAX),
+        Some((second, verb, y, rest)) => {
+            let around = Around {
+                first,
+                second: Some(second),
+                rest,
+            };
+            monad(operands(verb, y), around)
+        }
+        None => Deed::Refuse(Fault::Syntax),
     }
 }
 
-fn inner_monad_row<U: Uses>(
-    uses: &mut U,
-    by: &Activity,
-    state: &mut State,
-    mut parts: Parts,
-) -> Result<Parts, EvalEnd>
-    ensures makes { Makes U.leads U.refuses by.now.who uses.old uses.new (rows.behind_first (rows.by_three rows.monad_of) parts state.old) result state.new }
-    ensures turns { state.new.left ≤ state.old.left }
+fn dyad_row(mut parts: Parts) -> Deed
+    ensures { result ≡ rows.dyad_row parts }
 {
-    match parts.pop() {
-        Some(left) => match monad_row(uses, by, state, parts) {
-            Ok(parts) => push(parts, left),
-            Err(end) => Err(end),
-        },
-        None => Err(SYNTAX),
-    }
-}
-
-fn inner_dyad_row<U: Uses>(
-    uses: &mut U,
-    by: &Activity,
-    state: &mut State,
-    mut parts: Parts,
-) -> Result<Parts, EvalEnd>
-    ensures makes { Makes U.leads U.refuses by.now.who uses.old uses.new (rows.behind_first (rows.by_three rows.dyad_of) parts state.old) result state.new }
-    ensures turns { state.new.left ≤ state.old.left }
-{
-    match parts.pop() {
-        Some(left) => match dyad_row(uses, by, state, parts) {
-            Ok(parts) => push(parts, left),
-            Err(end) => Err(end),
-        },
-        None => Err(SYNTAX),
-    }
-}
-
-// What a name can stand for, in memory of its own: the value of a part.
-fn term_of(by: &Activity, part: &Part) -> Result<Option<Term>, NoMemory>
-    ensures { IfOk result (λ term. term ≡ rows.term_of part.now) }
-{
-    match part {
-        Part::Noun(value) => match value.tree(by.alloc, &Room::none()) {
-            Ok(tree) => Ok(Some(Term::Noun(tree))),
-            Err(NoMemory) => Err(NoMemory),
-        },
-        Part::Verb { term, .. } => match term.copy(by.alloc) {
-            Ok(copy) => Ok(Some(copy)),
-            Err(NoMemory) => Err(NoMemory),
-        },
-        _ => Ok(None),
-    }
-}
-
-// Gives a name its value.
-fn write<U: Uses>(uses: &mut U, by: &Activity, name: Name, value: Term) -> Result<(), Halt>
-    ensures { Runs U.leads U.refuses by.now.who uses.old uses.new (Ask (asked.Write base_locale name value) (λ reply. Return tt)) result }
-{
-    match base(by.alloc) {
-        Ok(place) => tell(uses, by.who, Use::Write { place, name, value }),
-        Err(NoMemory) => Err(Halt::NoMemory),
-    }
-}
-
-// Gives a name what a part stands for. The part stays.
-fn write_part<U: Uses>(
-    uses: &mut U,
-    by: &Activity,
-    name: Name,
-    term: Term,
-    value: Part,
-    rest: Parts,
-) -> Result<Parts, EvalEnd>
-    ensures { (s : State) → Makes U.leads U.refuses by.now.who uses.old uses.new (rows.assigns name value rest s (Some term)) result s }
-{
-    match write(uses, by, name, term) {
-        Ok(()) => push(rest, value),
-        Err(halt) => Err(EvalEnd::Halt(halt)),
-    }
-}
-
-// Gives a name the value of a part, which stays.
-fn assign<U: Uses>(
-    uses: &mut U,
-    by: &Activity,
-    name: Name,
-    value: Part,
-    rest: Parts,
-) -> Result<Parts, EvalEnd>
-    ensures { (s : State) → Makes U.leads U.refuses by.now.who uses.old uses.new (rows.assigns name value rest s (rows.term_of value)) result s }
-{
-    match term_of(by, &value) {
-        Ok(Some(term)) => write_part(uses, by, name, term, value, rest),
-        Ok(None) => Err(SYNTAX),
-        Err(NoMemory) => Err(NO_MEMORY),
+    let Some(first) = parts.pop() else {
+        return Deed::Refuse(Fault::Syntax);
+    };
+    match first_three(parts) {
+        Some((x, verb, y, rest)) => {
+            let around = Around {
+                first,
+                second: None,
+                rest,
+            };
+            dyad(noun_in(x), operands(verb, y), around)
+        }
+        None => Deed::Refuse(Fault::Syntax),
     }
 }
 
@@ -288,96 +199,55 @@ fn noun_as_target(kind: Kind) -> Fault
     }
 }
 
-fn target_name(target: Part) -> Result<Name, EvalEnd>
-    ensures { Answers (rows.target_name target) result }
+fn target_name(room: &Room, target: Part) -> Result<Name, Fault>
+    ensures { result ≡ rows.target_name target }
 {
     match target {
         Part::Target(name) => Ok(name),
-        Part::Noun(noun) => Err(EvalEnd::Fault(noun_as_target(noun.kind()))),
-        _ => Err(SYNTAX),
+        Part::Noun(noun) => Err(noun_as_target(noun.array().kind(room))),
+        _ => Err(Fault::Syntax),
     }
 }
 
-fn assign_to<U: Uses>(
-    uses: &mut U,
-    by: &Activity,
-    target: Part,
-    value: Part,
-    rest: Parts,
-) -> Result<Parts, EvalEnd>
-    ensures { (s : State) → Makes U.leads U.refuses by.now.who uses.old uses.new (rows.assigns_to (rows.target_name target) value rest s) result s }
-{
-    match target_name(target) {
-        Ok(name) => assign(uses, by, name, value, rest),
-        Err(end) => Err(end),
-    }
-}
-
-fn assignment_row<U: Uses>(uses: &mut U, by: &Activity, parts: Parts) -> Result<Parts, EvalEnd>
-    ensures { (s : State) → Makes U.leads U.refuses by.now.who uses.old uses.new (rows.by_three rows.assignment_of parts s) result s }
+fn assignment_row(room: &Room, parts: Parts) -> Deed
+    ensures { result ≡ rows.assignment_row parts }
 {
     match first_three(parts) {
-        Some((target, _, value, rest)) => assign_to(uses, by, target, value, rest),
-        None => Err(SYNTAX),
+        Some((target, _, value, rest)) => match target_name(room, target) {
+            Ok(name) => Deed::Assign { name, value, rest },
+            Err(fault) => Deed::Refuse(fault),
+        },
+        None => Deed::Refuse(Fault::Syntax),
     }
 }
 
-fn parenthesis_row(parts: Parts) -> Result<Parts, EvalEnd>
-    ensures { Answers (rows.parenthesized parts) result }
+fn parenthesis_row(parts: Parts) -> Deed
+    ensures { result ≡ rows.parenthesis_row parts }
 {
     match first_three(parts) {
-        Some((_, value, _, rest)) => push(rest, value),
-        None => Err(SYNTAX),
+        Some((_, value, _, rest)) => Deed::Leave { value, rest },
+        None => Deed::Refuse(Fault::Syntax),
     }
 }
 
-// A row that is built, which has its turn.
-fn act_built<U: Uses>(
-    uses: &mut U,
-    by: &Activity,
-    state: &mut State,
-    row: u8,
-    parts: Parts,
-) -> Result<Parts, EvalEnd>
-    ensures makes { Makes U.leads U.refuses by.now.who uses.old uses.new (rows.built_row row parts state.old) result state.new }
-    ensures turns { state.new.left ≤ state.old.left }
-{
-    if row == 0 {
-        monad_row(uses, by, state, parts)
-    } else if row == 1 {
-        inner_monad_row(uses, by, state, parts)
-    } else if row == 2 {
-        inner_dyad_row(uses, by, state, parts)
-    } else if row == 7 {
-        assignment_row(uses, by, parts)
-    } else {
-        parenthesis_row(parts)
-    }
-}
-
-/// Does what a row of the table does to the parts.
-pub(crate) fn act<U: Uses>(
-    uses: &mut U,
-    by: &Activity,
-    state: &mut State,
-    row: u8,
-    parts: Parts,
-) -> Result<Parts, EvalEnd>
-    ensures makes { Makes U.leads U.refuses by.now.who uses.old uses.new (rows.acted row parts state.old) result state.new }
-    ensures turns { OnOk result (state.new.left < state.old.left) }
-{
-    if !is_built(row) {
-        return Err(EvalEnd::Fault(Fault::Nonce));
-    }
-    if !take_turn(state) {
-        return Err(EvalEnd::Fault(Fault::TimeLimit));
-    }
-    act_built(uses, by, state, row, parts)
-}
-
-// Whether something is done where this row acts.
-fn is_built(row: u8) -> bool
+/// Whether something is done where this row acts.
+pub(crate) fn is_built(row: u8) -> bool
     ensures { result ≡ rows.is_built row }
 {
     matches!(row, 0 | 1 | 2 | 7 | 8)
+}
+
+/// What a row of the table asks for, of the parts that were read.
+#[tactic(auto, unfolding(crate::specs::Rows::deed_of))]
+pub(crate) fn deed_of(room: &Room, row: u8, parts: Parts) -> Deed
+    ensures { result ≡ rows.deed_of row parts }
+{
+    match row {
+        0 => monad_row(parts),
+        1 => inner_monad_row(parts),
+        2 => dyad_row(parts),
+        7 => assignment_row(room, parts),
+        8 => parenthesis_row(parts),
+        _ => Deed::Refuse(Fault::Nonce),
+    }
 }

@@ -1,8 +1,11 @@
 //! Lists that grow and shrink at their front.
 ghost use Rattle.std.specs.Prelude.{◌≡◌, [], ◌∷◌, length, MatchOption, OnOk, OnErr};
+ghost use Rattle.jeval.specs.Made.{Gives};
 ghost use Rattle.jeval.specs.Parsing.{class_at};
 
-use crate::part::{Class, Part};
+use crate::end::{EvalEnd, NO_MEMORY};
+use crate::parsing::Class;
+use crate::part::Part;
 use jdata::NoMemory;
 use std::alloc::Global;
 use std::marker::Model;
@@ -22,6 +25,19 @@ impl<T> Model for Stack<T> {
     ghost coded = { coded_list T.code };
 
     ghost view = { λ s. reverse s.items.items };
+}
+
+/// The parts that were read, the one that was read last in front.
+pub(crate) type Parts = Stack<Part>;
+
+/// The parts with this one in front.
+pub(crate) fn pushed(mut parts: Parts, part: Part) -> Result<Parts, EvalEnd>
+    ensures { Gives (part ∷ parts) result }
+{
+    match parts.push(part) {
+        Ok(()) => Ok(parts),
+        Err(NoMemory) => Err(NO_MEMORY),
+    }
 }
 
 impl<T: Drop> Stack<T> {

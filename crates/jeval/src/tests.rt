@@ -1,8 +1,8 @@
 //! Sentences and what they print, worked by hand from the parsing table and the order of refusals.
-ghost use Rattle.jeval.specs.Session.{IsVerb};
+ghost use Rattle.jeval.specs.Eval.{IsVerb};
 
 use crate::{Eval, EvalEnd, Shown};
-use jarray::Array;
+use jarray::{Array, Room};
 use jdata::{Bytes, Fault, Name, Path, Primitive};
 use jterm::{Locative, Term};
 use juses::{Cause, Halt, Reply, Solo, Use};
@@ -338,7 +338,7 @@ fn apply(eval: &mut Eval<Solo>, verb: &Term, x: Option<i64>, y: i64) -> Result<O
         None => None,
     };
     match eval.apply(verb, x, Array::atom(y)) {
-        Ok(value) => Ok(value.integer()),
+        Ok(value) => Ok(value.integer(&Room::none())),
         Err(end) => Err(end),
     }
 }

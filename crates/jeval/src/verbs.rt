@@ -1,62 +1,88 @@
-//! The primitive verbs that are built.
+//! The primitive verbs, as an evaluation applies them.
 ghost use Rattle.std.specs.Prelude.{◌≡◌};
-ghost use Rattle.jeval.specs.Made.{Answers, IsEnd};
+ghost use Rattle.jeval.specs.Made.{Answers, Ends};
 ghost use Rattle.jeval.specs.Verbs as verbs;
 
+use crate::datum::Datum;
 use crate::end::EvalEnd;
-use crate::valence::{is_scalar_dyad, is_scalar_monad};
 use jarray::{Array, Room};
-use jdata::{Fault, Primitive, Trouble};
-use jdyad::scalar2;
-use jmono::scalar1;
+use jdata::{Primitive, Trouble};
 use juses::Halt;
 use std::alloc::Global;
 
-/// Why there is no value, as the end of an evaluation.
-pub(crate) fn end_of(trouble: Trouble) -> EvalEnd
-    ensures { IsEnd trouble result }
+/// Whether something of the verb is built.
+#[tactic(auto, unfolding(jscalar::specs::Monads::monad_on, jscalar::specs::Dyads::dyad_on))]
+pub(crate) fn is_built(verb: Primitive) -> bool
+    ensures { result ≡ verbs.is_built verb }
 {
-    match trouble {
-        Trouble::Fault(fault) => EvalEnd::Fault(fault),
-        Trouble::NoMemory => EvalEnd::Halt(Halt::NoMemory),
+    matches!(
+        verb,
+        Primitive::Equal
+            | Primitive::Less
+            | Primitive::LessDot
+            | Primitive::LessColon
+            | Primitive::Greater
+            | Primitive::GreaterDot
+            | Primitive::GreaterColon
+            | Primitive::Plus
+            | Primitive::PlusDot
+            | Primitive::PlusColon
+            | Primitive::Times
+            | Primitive::TimesDot
+            | Primitive::TimesColon
+            | Primitive::Minus
+            | Primitive::MinusDot
+            | Primitive::MinusColon
+            | Primitive::Divide
+            | Primitive::DivideColon
+            | Primitive::Power
+            | Primitive::Bar
+            | Primitive::TildeColon
+            | Primitive::Bang
+    )
+}
+
+// What a kernel gave, as the end of an evaluation.
+fn ended(given: Result<Array, Trouble>) -> Result<Datum, EvalEnd>
+    ensures { Ends given result }
+{
+    match given {
+        Ok(array) => Ok(Datum::of(array)),
+        Err(Trouble::Fault(fault)) => Err(EvalEnd::Fault(fault)),
+        Err(Trouble::NoMemory) => Err(EvalEnd::Halt(Halt::NoMemory)),
     }
 }
 
-fn monad(alloc: Global, verb: Primitive, y: Array) -> Result<Array, EvalEnd>
+fn monad(alloc: Global, room: &mut Room, verb: Primitive, y: Datum) -> Result<Datum, EvalEnd>
     ensures { Answers (verbs.monad verb y) result }
 {
-    if !is_scalar_monad(verb) {
-        return Err(EvalEnd::Fault(Fault::Nonce));
-    }
-    match scalar1(alloc, &mut Room::none(), verb, y) {
-        Ok(value) => Ok(value),
-        Err(trouble) => Err(end_of(trouble)),
-    }
+    ended(jprim::monad(alloc, room, verb, y.into_array()))
 }
 
-fn dyad(alloc: Global, verb: Primitive, x: Array, y: Array) -> Result<Array, EvalEnd>
+fn dyad(
+    alloc: Global,
+    room: &mut Room,
+    verb: Primitive,
+    x: Datum,
+    y: Datum,
+) -> Result<Datum, EvalEnd>
     ensures { Answers (verbs.dyad verb x y) result }
 {
-    if !is_scalar_dyad(verb) {
-        return Err(EvalEnd::Fault(Fault::Nonce));
-    }
-    match scalar2(alloc, &mut Room::none(), verb, x, y) {
-        Ok(value) => Ok(value),
-        Err(trouble) => Err(end_of(trouble)),
-    }
+    ended(jprim::dyad(alloc, room, verb, x.into_array(), y.into_array()))
 }
 
 /// A primitive verb on its arguments.
 pub(crate) fn primitive(
     alloc: Global,
+    room: &mut Room,
     verb: Primitive,
-    x: Option<Array>,
-    y: Array,
-) -> Result<Array, EvalEnd>
+    x: Option<Datum>,
+    y: Datum,
+) -> Result<Datum, EvalEnd>
     ensures { Answers (verbs.primitive verb x y) result }
 {
     match x {
-        None => monad(alloc, verb, y),
-        Some(x) => dyad(alloc, verb, x, y),
+        None => monad(alloc, room, verb, y),
+        Some(x) => dyad(alloc, room, verb, x, y),
     }
 }

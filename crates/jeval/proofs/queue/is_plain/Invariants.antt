@@ -1,5 +1,5 @@
 use Rattle.std.proofs.Common.{◌≡◌, drop}
-use Rattle.jeval.specs.Built.{is_plain}
+use Rattle.jeval.specs.Queue.{is_plain}
 use Rattle.jeval.proofs.queue.is_plain.Given as goal
 
 abbrev pub invariant-loop-i : goal.invariant-loop-i

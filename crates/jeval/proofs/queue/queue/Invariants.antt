@@ -1,5 +1,5 @@
 use Rattle.std.proofs.Common.{◌≡◌, drop}
-use Rattle.jeval.specs.Built.{queue_of, queued_behind}
+use Rattle.jeval.specs.Queue.{queue_of, queued_behind}
 use Rattle.jeval.proofs.queue.queue.Given as goal
 
 abbrev pub invariant-loop-word : goal.invariant-loop-word

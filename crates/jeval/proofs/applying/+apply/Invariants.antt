@@ -1,4 +1,0 @@
-use Rattle.jeval.proofs.applying.+apply.Given as goal
-
-abbrev pub decreases-apply : goal.decreases-apply
-decreases-apply g l = l.levels
