@@ -1,24 +1,23 @@
--- The session of a script on one thread: what it wrote is the prints of a history of its sentences.
-use Rattle.std.specs.Prelude.{ℕ, ◌≡◌, ◌≤◌, ◌+◌, ◌⊎◌, List, [], ◌∷◌, ◌++◌, length, Bool, true, false, Option, Some, IfSome}
-use Rattle.std.specs.Io.{StartsWith}
-use Rattle.std.specs.Io.KnownBytes.{Appends, Consumes, IsAtEnd}
+-- The session of a script on one thread: what it read, and what it wrote, which is the prints of a history of its sentences.
+use Rattle.std.specs.Prelude.{ℕ, ◌≡◌, ◌≤◌, ◌+◌, ◌⊎◌, List, [], ◌∷◌, ◌++◌, length, Bool, true, false, Option, IfSome}
+use Rattle.std.specs.Io.KnownBytes.{Appends, Consumes}
 use Rattle.jeval.specs.declared.state.State.{State}
 use Rattle.jio.specs.Counts.{Rises}
-use Rattle.jio.specs.Sink.{TookPart}
+use Rattle.jio.specs.Sink.{Writes, TookPart}
+use Rattle.jio.specs.Source.{Reads}
 use Rattle.jsession.specs.Items.{sentences, ended}
-use Rattle.jsession.specs.Ran.{Paper}
-use Rattle.jsession.specs.Reads.{Side, ReadPastLimit}
+use Rattle.jsession.specs.Reads.{ReadWhole, ReadBroken, ReadOn, ReadPastLimit}
 use Rattle.jsession.specs.Script.{script_of}
 use Rattle.jsession.specs.declared.status.Status.{Status}
 use Rattle.jsession.specs.declared.status.Status.TheVariants as status
 use Rattle.juses.specs.Histories.{Once, OneThreadRun, prints}
 use Rattle.juses.specs.Program.{Program}
+use Rattle.juses.specs.Wishes.{Wish}
 use Rattle.juses.specs.declared.uses.Entry.{Entry}
 use Rattle.juses.specs.declared.uses.Reply.{Reply}
-use Rattle.juses.specs.declared.uses.Use.{Use}
 
 -- what main runs: these sentences, with 10,000,000 turns each
-abbrev pub main_program : List (List ℕ) → Program Use Reply State
+abbrev pub main_program : List (List ℕ) → Program Wish Reply State
 main_program items = script_of 10000000 items
 
 -- the sink took the prints of the one-thread run of these sentences
@@ -59,32 +58,90 @@ pub record BrokeOff (took took' : Option (List ℕ)) (items : List (List ℕ)) :
 abbrev pub WroteSome : (took took' : Option (List ℕ)) → Bool → List (List ℕ) → Type 0
 WroteSome took took' whole items = WrotePart took took' whole items × BrokeOff took took' items
 
--- the bytes at the front of the script that were read
-abbrev pub IsFront : List ℕ → Option (List ℕ) → List ℕ → Type 0
-IsFront script left front = Consumes (Some script) left front
+-- these bytes were read, from the front of the script where the source tells it
+pub record WereRead (source source' : Reads) (bytes : List ℕ) : Type 0 where
+  pub left : Consumes source.left source'.left bytes
+  pub given : source'.given ≡ source.given + length bytes
 
--- the items of a script: all its sentences where it was read to its end, and else those whose line end was read
-abbrev pub AreItems : List ℕ → Option (List ℕ) → List (List ℕ) → Type 0
-AreItems script left items = ((items ≡ sentences script) × IsAtEnd left) ⊎ ((front : List ℕ) × StartsWith script front × (items ≡ sentences (ended front)))
+-- this is the whole script: all that was left, where the source tells it, and it was read to its end
+pub record IsScript (source source' : Reads) (script : List ℕ) : Type 0 where
+  pub were_read : WereRead source source' script
+  pub whole : IfSome source.left (λ bytes. bytes ≡ script)
+  pub read : ReadWhole source source'
+
+-- no write failed, or was answered otherwise than All
+pub record AllTaken (sink sink' : Writes) : Type 0 where
+  pub faults : sink'.faults ≡ sink.faults
+  pub whole : sink'.whole ≡ sink.whole
+
+-- the prints of the one-thread run of these sentences were written, in order, one piece a sentence
+pub record WroteWhole (sink sink' : Writes) (items : List (List ℕ)) : Type 0 where
+  pub wrote : WroteRun sink.took sink'.took items
+  pub all : AllTaken sink sink'
+  pub pieces : sink'.calls ≤ sink.calls + length items + 1
+
+-- Done: the script was read to its end, and all of it was run
+pub record IsDone (source source' : Reads) (sink sink' : Writes) : Type 0 where
+  pub script : List ℕ
+  pub is_script : IsScript source source' script
+  pub wrote : WroteWhole sink sink' (sentences script)
+
+-- a read fault: what had been read by then was run, up to its last line end, and nothing was read after it
+pub record IsReadFault (source source' : Reads) (sink sink' : Writes) : Type 0 where
+  pub front : List ℕ
+  pub were_read : WereRead source source' front
+  pub read : ReadBroken source source'
+  pub wrote : WroteWhole sink sink' (sentences (ended front))
+
+-- a script too long: its first 16,777,216 bytes were run, up to their last line end, and one more was read
+pub record IsTooLong (source source' : Reads) (sink sink' : Writes) : Type 0 where
+  pub front : List ℕ
+  pub last : ℕ
+  pub long : length front ≡ 16777216
+  pub were_read : WereRead source source' (front ++ last ∷ [])
+  pub past_limit : ReadPastLimit source source'
+  pub on : ReadOn source source'
+  pub wrote : WroteWhole sink sink' (sentences (ended front))
+
+-- the sentences of the whole script, or of the front of what was read, up to its last line end
+pub record AreOfScript (source source' : Reads) (items : List (List ℕ)) : Type 0 where
+  pub script : List ℕ
+  pub is_script : IsScript source source' script
+  pub are : items ≡ sentences script
+
+pub record AreOfFront (source source' : Reads) (items : List (List ℕ)) : Type 0 where
+  pub front : List ℕ
+  pub more : List ℕ
+  pub were_read : WereRead source source' (front ++ more)
+  pub are : items ≡ sentences (ended front)
+
+-- a session that broke off: a beginning of what its sentences print was written, one piece a sentence
+pub record BrokeInside (source source' : Reads) (sink sink' : Writes) : Type 0 where
+  pub items : List (List ℕ)
+  pub are_items : AreOfScript source source' items ⊎ AreOfFront source source' items
+  pub wrote : WroteSome sink.took sink'.took sink'.whole items
+  pub pieces : sink'.calls ≤ sink.calls + length items + 1
+
+-- it broke off at a failed write
+pub record IsWriteFault (source source' : Reads) (sink sink' : Writes) : Type 0 where
+  pub broke : BrokeInside source source' sink sink'
+  pub faults : Rises sink.faults sink'.faults
+  pub whole : sink'.whole ≡ false
+
+-- or for want of memory, and no write failed
+pub record IsShort (source source' : Reads) (sink sink' : Writes) : Type 0 where
+  pub broke : BrokeInside source source' sink sink'
+  pub faults : sink'.faults ≡ sink.faults
 
 -- what a session over a new desk did, by its status
-abbrev pub Told : Side → Side → Paper → Paper → Status → Type 0
-Told source source' sink sink' status.Done =
-    IfSome source.left (λ script. WroteRun sink.took sink'.took (sentences script)) × IsAtEnd source'.left
-    × (source'.given ≤ source.given + 16777216) × (sink'.whole ≡ sink.whole)
-Told source source' sink sink' status.ReadFault =
-    IfSome source.left (λ script. (front : List ℕ) × IsFront script source'.left front × WroteRun sink.took sink'.took (sentences (ended front)))
-    × Rises source.faults source'.faults × (source'.given ≤ source.given + 16777216) × (sink'.whole ≡ sink.whole)
-Told source source' sink sink' status.TooLong =
-    IfSome source.left (λ script. (front : List ℕ) × (last : ℕ) × (length front ≡ 16777216) × IsFront script source'.left (front ++ last ∷ [])
-    × WroteRun sink.took sink'.took (sentences (ended front)))
-    × ReadPastLimit source.given source'.given × (sink'.whole ≡ sink.whole)
-Told source source' sink sink' status.WriteFault =
-    IfSome source.left (λ script. (items : List (List ℕ)) × AreItems script source'.left items × WroteSome sink.took sink'.took sink'.whole items) × Rises sink.faults sink'.faults × (sink'.whole ≡ false)
-Told source source' sink sink' status.NoMemory =
-    IfSome source.left (λ script. (items : List (List ℕ)) × AreItems script source'.left items × WroteSome sink.took sink'.took sink'.whole items)
+abbrev pub Told : Reads → Reads → Writes → Writes → Status → Type 0
+Told source source' sink sink' status.Done = IsDone source source' sink sink'
+Told source source' sink sink' status.ReadFault = IsReadFault source source' sink sink'
+Told source source' sink sink' status.TooLong = IsTooLong source source' sink sink'
+Told source source' sink sink' status.WriteFault = IsWriteFault source source' sink sink'
+Told source source' sink sink' status.NoMemory = IsShort source source' sink sink'
 Told source source' sink sink' status.Usage = ⊥
 
 -- no more bytes were given than were left
-abbrev pub GivesWhatIsLeft : Side → Side → Type 0
+abbrev pub GivesWhatIsLeft : Reads → Reads → Type 0
 GivesWhatIsLeft source source' = IfSome source.left (λ script. source'.given ≤ source.given + length script)

@@ -1,8 +1,6 @@
 //! A session over a new desk.
 ghost use Rattle.std.specs.Prelude.{◌≡◌, ◌≤◌};
 ghost use Rattle.juses.specs.Keeping.{first_kept};
-ghost use Rattle.jsession.specs.Ran.{paper};
-ghost use Rattle.jsession.specs.Reads.{side};
 ghost use Rattle.jconsole.specs.Session.{Told, GivesWhatIsLeft};
 
 use jdata::{NoMemory, Path};
@@ -22,12 +20,10 @@ fn session_over<S: Source, K: Sink>(
     out: &mut K,
 ) -> Status
     requires { solo ≡ first_kept 0 }
-    ensures told { Told
-        (side (S.left script.old) (S.given script.old) (S.faults script.old)) (side (S.left script.new) (S.given script.new) (S.faults script.new))
-        (paper (K.took out.old) (K.faults out.old) (K.whole out.old)) (paper (K.took out.new) (K.faults out.new) (K.whole out.new)) result }
-    ensures gives { GivesWhatIsLeft (side (S.left script.old) (S.given script.old) (S.faults script.old)) (side (S.left script.new) (S.given script.new) (S.faults script.new)) }
-    ensures reads { S.faults script.old ≤ S.faults script.new }
-    ensures writes { K.faults out.old ≤ K.faults out.new }
+    ensures told { Told (S.reads script.old) (S.reads script.new) (K.writes out.old) (K.writes out.new) result }
+    ensures gives { GivesWhatIsLeft (S.reads script.old) (S.reads script.new) }
+    ensures reads { (S.reads script.old).faults ≤ (S.reads script.new).faults }
+    ensures writes { (K.writes out.old).faults ≤ (K.writes out.new).faults }
 {
     match Eval::new(alloc, solo, Path::main(), 0, TURNS) {
         Ok(eval) => {
@@ -42,12 +38,10 @@ fn session_over<S: Source, K: Sink>(
 
 /// Runs a script over a new desk.
 pub(crate) fn session<S: Source, K: Sink>(alloc: Global, script: &mut S, out: &mut K) -> Status
-    ensures told { Told
-        (side (S.left script.old) (S.given script.old) (S.faults script.old)) (side (S.left script.new) (S.given script.new) (S.faults script.new))
-        (paper (K.took out.old) (K.faults out.old) (K.whole out.old)) (paper (K.took out.new) (K.faults out.new) (K.whole out.new)) result }
-    ensures gives { GivesWhatIsLeft (side (S.left script.old) (S.given script.old) (S.faults script.old)) (side (S.left script.new) (S.given script.new) (S.faults script.new)) }
-    ensures reads { S.faults script.old ≤ S.faults script.new }
-    ensures writes { K.faults out.old ≤ K.faults out.new }
+    ensures told { Told (S.reads script.old) (S.reads script.new) (K.writes out.old) (K.writes out.new) result }
+    ensures gives { GivesWhatIsLeft (S.reads script.old) (S.reads script.new) }
+    ensures reads { (S.reads script.old).faults ≤ (S.reads script.new).faults }
+    ensures writes { (K.writes out.old).faults ≤ (K.writes out.new).faults }
 {
     match Solo::new(alloc, 0) {
         Ok(solo) => session_over(alloc, solo, script, out),

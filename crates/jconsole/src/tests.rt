@@ -83,6 +83,11 @@ fn scripts_and_their_prints(rt: HostRuntime) -> Result<(), Fail> {
             "3\n|nonce error\n|   7 % 2\n0\n_2\n2\n7\nit's\n'\n|open quote\n|   'it''s\n",
         ),
         ("NB. nothing\n(1 + 2) * 3 NB. nine\n", "9\n"),
+        // a name without a value, and an empty text where numbers are wanted
+        (
+            "b + 1\n1 + b\n+ ''\n'' + 1\n",
+            "|value error\n|   b + 1\n|nonce error\n|   1 + b\n\n\n",
+        ),
         (
             "10 + 1 2\nb =: c =: 3\nb\nc\na =: 1 2 3\na * a + 1\ns =: -\n10 s 2\n",
             "11 12\n3\n3\n2 6 12\n8\n",

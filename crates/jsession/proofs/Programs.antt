@@ -1,63 +1,55 @@
 -- Programs that are run one after another.
-use Rattle.std.proofs.Common.{ℕ, List, [], ◌∷◌, ◌++◌, Result, Ok, Err, ap, subst}
-use Rattle.juses.specs.Program.{Program, Return, Ask, ◌>>=◌, Ends, Begins}
+use Rattle.std.proofs.Common.{◌≡◌, ℕ, List, [], ◌∷◌, ◌++◌, Result, Ok, Err, ap, sym, subst}
+use Rattle.juses.specs.Events.{Events, NoMore, Did, Does}
+use Rattle.juses.specs.Program.{Program, Return, Ask, ◌>>=◌}
+use Rattle.juses.specs.Wishes.{Wish}
 use Rattle.juses.specs.declared.uses.Halt.{Halt}
+use Rattle.juses.specs.declared.uses.Halt.TheVariants.{NoMemory}
 use Rattle.juses.specs.declared.uses.Reply.{Reply}
 use Rattle.juses.specs.declared.uses.Use.{Use}
-use Rattle.juses.proofs.Traces.{begins_ended}
-use Rattle.jeval.specs.Made.{Comes}
-use Rattle.jeval.specs.Showing.{sentence}
-use Rattle.jeval.specs.declared.eval.Shown.{Shown}
+use Rattle.juses.proofs.Doing.{both}
+use Rattle.jeval.specs.Sentence.{sentence}
+use Rattle.jeval.specs.declared.sentence.Shown.{Shown}
 use Rattle.jeval.specs.declared.state.State.{State}
 use Rattle.jsession.specs.Script.{script}
 
-module _ {A B : Type 0} (f : A → B) where
-  pub ends_map : (p : Program Use Reply A) (es : List (Use × Reply)) (a : A) → Ends p es a → Ends (p >>= (λ x. Return (f x))) es (f a)
-  ends_map (Return x) [] a h = ap f h
-  ends_map (Return x) (e ∷ es) a h = absurd h
-  ends_map (Ask q r) [] a h = absurd h
-  ends_map (Ask q r) (e ∷ es) a h = (h.0, ends_map (r e.1) es a h.1)
+-- whatever came of it, the program began so
+pub does_begun : {A : Type 0} (refuses refuses' : List ℕ → Use → Halt → Type 0) (who : List ℕ) (p : Program Wish Reply A) (es : Events) (r : Result A Halt)
+    → Does refuses who p es r → Does refuses' who p es (Err NoMemory)
+does_begun refuses refuses' who p NoMore r h = tt
+does_begun refuses refuses' who (Return b) (Did e rest) r h = h
+does_begun refuses refuses' who (Ask q k) (Did e rest) r h = (h.0, h.1, does_begun refuses refuses' who (k e.reply) rest r h.2)
 
-module _ {A B C : Type 0} (f : A → B) where
-  pub ends_on : (k : B → Program Use Reply C) (p : Program Use Reply A) (es fs : List (Use × Reply)) (b : B) (c : C) → Ends (p >>= (λ x. Return (f x))) es b → Ends (k b) fs c → Ends (p >>= (λ x. k (f x))) (es ++ fs) c
-  ends_on k (Return x) [] fs b c h m = subst (λ y. Ends (k y) fs c) h m
-  ends_on k (Return x) (e ∷ es) fs b c h m = absurd h
-  ends_on k (Ask q r) [] fs b c h m = absurd h
-  ends_on k (Ask q r) (e ∷ es) fs b c h m = (h.0, ends_on k (r e.1) es fs b c h.1 m)
+module _ (refuses : List ℕ → Use → Halt → Type 0) (who : List ℕ) where
+  pub does_map : {A B : Type 0} (f : A → B) (p : Program Wish Reply A) (es : Events) (a : A) → Does refuses who p es (Ok a) → Does refuses who (p >>= (λ x. Return (f x))) es (Ok (f a))
+  does_map f p NoMore a h = ap (λ x. x >>= (λ y. Return (f y))) h
+  does_map f (Return b) (Did e rest) a h = absurd h
+  does_map f (Ask q k) (Did e rest) a h = (h.0, h.1, does_map f (k e.reply) rest a h.2)
 
-  pub begins_after : (k : B → Program Use Reply C) (p : Program Use Reply A) (es fs : List (Use × Reply)) (b : B) → Ends (p >>= (λ x. Return (f x))) es b → Begins (k b) fs → Begins (p >>= (λ x. k (f x))) (es ++ fs)
-  begins_after k (Return x) [] fs b h m = subst (λ y. Begins (k y) fs) h m
-  begins_after k (Return x) (e ∷ es) fs b h m = absurd h
-  begins_after k (Ask q r) [] fs b h m = absurd h
-  begins_after k (Ask q r) (e ∷ es) fs b h m = (h.0, begins_after k (r e.1) es fs b h.1 m)
+  -- a program that goes on otherwise once it has come so far
+  does_through : {A B C : Type 0} (f : A → Program Wish Reply B) (g : A → Program Wish Reply C) (p : Program Wish Reply A) (es fs : Events) (b : B) (r : Result C Halt) → Does refuses who (p >>= f) es (Ok b)
+      → ((a : A) (ds : Events) → Does refuses who (f a) ds (Ok b) → Does refuses who (g a) (both ds fs) r) → Does refuses who (p >>= g) (both es fs) r
+  does_through f g (Return x) es fs b r h k = k x es h
+  does_through f g (Ask q c) NoMore fs b r h k = cc
+  does_through f g (Ask q c) (Did e rest) fs b r h k = (h.0, h.1, does_through f g (c e.reply) rest fs b r h.2 k)
 
--- a program that goes on otherwise once it has come so far
-begins_through : {A B C : Type 0} (f : A → Program Use Reply B) (g : A → Program Use Reply C) (p : Program Use Reply A) (es fs : List (Use × Reply)) (b : B) → Ends (p >>= f) es b
-    → ((a : A) (ds : List (Use × Reply)) → Ends (f a) ds b → Begins (g a) (ds ++ fs)) → Begins (p >>= g) (es ++ fs)
-begins_through f g (Return x) es fs b h k = k x es h
-begins_through f g (Ask q r) [] fs b h k = absurd h
-begins_through f g (Ask q r) (e ∷ es) fs b h k = (h.0, begins_through f g (r e.1) es fs b h.1 k)
+  does_further : {A B C : Type 0} (f : A → Program Wish Reply B) (g : A → Program Wish Reply C) (p : Program Wish Reply A) (es : Events)
+      → ((a : A) (ds : Events) → Does refuses who (f a) ds (Err NoMemory) → Does refuses who (g a) ds (Err NoMemory)) → Does refuses who (p >>= f) es (Err NoMemory) → Does refuses who (p >>= g) es (Err NoMemory)
+  does_further f g (Return x) es k h = k x es h
+  does_further f g (Ask q c) NoMore k h = tt
+  does_further f g (Ask q c) (Did e rest) k h = (h.0, h.1, does_further f g (c e.reply) rest k h.2)
 
-begins_further : {A B C : Type 0} (f : A → Program Use Reply B) (g : A → Program Use Reply C) (p : Program Use Reply A) (es : List (Use × Reply))
-    → ((a : A) (ds : List (Use × Reply)) → Begins (f a) ds → Begins (g a) ds) → Begins (p >>= f) es → Begins (p >>= g) es
-begins_further f g (Return x) es k h = k x es h
-begins_further f g (Ask q r) [] k h = tt
-begins_further f g (Ask q r) (e ∷ es) k h = (h.0, begins_further f g (r e.1) es k h.1)
+  -- the first sentences came to their end, and this came of the next ones
+  pub script_on : (turns : ℕ) (first now : List (List ℕ)) (s t : State) (es fs : Events) (r : Result State Halt) → Does refuses who (script turns first s) es (Ok t) → Does refuses who (script turns now t) fs r
+      → Does refuses who (script turns (first ++ now) s) (both es fs) r
+  script_on turns [] now s t NoMore fs r h m = let is : s ≡ t = cc in subst (λ x. Does refuses who (script turns now x) fs r) (sym is) m
+  script_on turns [] now s t (Did e rest) fs r h m = absurd h
+  script_on turns (line ∷ first) now s t es fs r h m =
+      does_through (λ (x : Shown × State). script turns first x.1) (λ (x : Shown × State). script turns (first ++ now) x.1) (sentence turns (line ∷ []) s) es fs t r h (λ x ds k. script_on turns first now x.1 t ds fs r k m)
 
--- the first sentences came to their end, and the next ones began
-pub script_begins : (turns : ℕ) (first now : List (List ℕ)) (s t : State) (es fs : List (Use × Reply)) → Ends (script turns first s) es t → Begins (script turns now t) fs → Begins (script turns (first ++ now) s) (es ++ fs)
-script_begins turns [] now s t [] fs h m = subst (λ x. Begins (script turns now x) fs) h m
-script_begins turns [] now s t (e ∷ es) fs h m = absurd h
-script_begins turns (line ∷ first) now s t es fs h m =
-    begins_through (λ (r : Shown × State). script turns first r.1) (λ (r : Shown × State). script turns (first ++ now) r.1) (sentence turns line s) es fs t h (λ r ds k. script_begins turns first now r.1 t ds fs k m)
-
--- what begins some sentences begins these and more
-pub more_begin : (turns : ℕ) (now later : List (List ℕ)) (s : State) (es : List (Use × Reply)) → Begins (script turns now s) es → Begins (script turns (now ++ later) s) es
-more_begin turns [] later s [] h = tt
-more_begin turns [] later s (e ∷ es) h = absurd h
-more_begin turns (line ∷ now) later s es h =
-    begins_further (λ (r : Shown × State). script turns now r.1) (λ (r : Shown × State). script turns (now ++ later) r.1) (sentence turns line s) es (λ r ds k. more_begin turns now later r.1 ds k) h
-
-pub comes_begins : {A : Type 0} (p : Program Use Reply A) (es : List (Use × Reply)) (r : Result A Halt) → Comes p es r → Begins p es
-comes_begins p es (Ok a) h = begins_ended p es a h
-comes_begins p es (Err halt) h = h
+  -- what begins some sentences begins these and more
+  pub more_begun : (turns : ℕ) (now later : List (List ℕ)) (s : State) (es : Events) → Does refuses who (script turns now s) es (Err NoMemory) → Does refuses who (script turns (now ++ later) s) es (Err NoMemory)
+  more_begun turns [] later s NoMore h = tt
+  more_begun turns [] later s (Did e rest) h = absurd h
+  more_begun turns (line ∷ now) later s es h =
+      does_further (λ (x : Shown × State). script turns now x.1) (λ (x : Shown × State). script turns (now ++ later) x.1) (sentence turns (line ∷ []) s) es (λ x ds k. more_begun turns now later x.1 ds k) h

@@ -1,24 +1,23 @@
 -- How a session goes on from sentence to sentence.
 use Rattle.std.proofs.Common.{◌≡◌, ◌==◌, true, length, ◌⊎◌, inl, inr, ℕ, List, [], ◌∷◌, ◌++◌, Result, Ok, Err, OnOk, arith, refl, sym, ap, subst, append-nil}
 use Rattle.std.proofs.lemmas.Bool.Decides.{nat_tests}
-use Rattle.jeval.specs.Made.{Runs}
-use Rattle.jeval.specs.Showing.{sentence}
-use Rattle.jeval.specs.declared.eval.Shown.{Shown}
+use Rattle.jeval.specs.Sentence.{sentence}
+use Rattle.jeval.specs.declared.sentence.Shown.{Shown}
 use Rattle.jeval.specs.declared.state.State.{State}
-use Rattle.juses.specs.OldestFirst.{exchanges}
-use Rattle.juses.specs.Program.{Return, Ends, Begins}
-use Rattle.juses.specs.declared.uses.Entry.{Entry}
+use Rattle.jio.specs.Sink.{Writes, TookAll}
+use Rattle.juses.specs.Events.{NoMore, told, passing, RunsWhole}
+use Rattle.juses.specs.Program.{Return}
+use Rattle.juses.specs.Told.{Told, Passed, handed_out, closed_with}
+use Rattle.juses.specs.declared.uses.Cause.{Cause}
 use Rattle.juses.specs.declared.uses.Halt.{Halt}
-use Rattle.juses.specs.declared.uses.Reply.{Reply}
-use Rattle.juses.specs.declared.uses.Use.{Use}
-use Rattle.juses.proofs.Programs.{begins_bind, both_of, exchanged}
-use Rattle.jsession.specs.Broke.{Answer, well, ill, Broke, Went}
-use Rattle.jsession.specs.Ran.{Paper, Ran, Wrote, ComesTo}
-use Rattle.jsession.specs.Script.{script}
+use Rattle.juses.specs.declared.uses.Halt.TheVariants.{Wait, NoMemory, Closed}
+use Rattle.juses.proofs.Doing.{Relations, both, told_both, whichever, does_both, does_halt}
+use Rattle.jsession.specs.Broke.{IsWhy, Stopped, Broke, Went}
+use Rattle.jsession.specs.Ran.{Answer, well, ill, Wrote, Moment, moment, RanSentence, RanThrough, handing, doing, closing_of}
+use Rattle.jsession.specs.Script.{script, nothing_refused}
 use Rattle.jsession.specs.declared.status.Status.{Status}
-use Rattle.jsession.specs.declared.status.Status.TheVariants as status
-use Rattle.jsession.proofs.Papers.{wrote_further, took_all, nothing_appended}
-use Rattle.jsession.proofs.Programs.{ends_map, ends_on, begins_after, comes_begins, script_begins, more_begin}
+use Rattle.jsession.proofs.Papers.{took_nothing, took_on}
+use Rattle.jsession.proofs.Programs.{does_map}
 
 pub empty_of : (xs : List ℕ) → true ≡ (length xs == 0) → xs ≡ []
 empty_of [] h = refl
@@ -26,75 +25,76 @@ empty_of (x ∷ xs) h =
     let none : length (x ∷ xs) ≡ 0 = grind (arith, nat_tests, h) in
     absurd (omega (arith, none))
 
-module _ {S : Type 0} (leads : S → List Entry → List ℕ → S → Type 0) (refuses : S → Halt → Type 0) (stays : (s : S) → leads s [] [] s)
-    (joins : (s t u : S) (es fs : List Entry) (bs cs : List ℕ) → leads s es bs t → leads t fs cs u → leads s (es ++ fs) (bs ++ cs) u) where
-  pub then_closed : (s t u : S) (bs : List ℕ) → leads s [] bs t → leads t [] [] u → leads s [] bs u
-  then_closed s t u bs h k = let P : List ℕ → Type 0 = λ xs. leads s [] xs u in subst P (append-nil bs) (joins s t u [] [] bs [] h k)
+-- the state without what was shown
+abbrev state_of : Result (Shown × State) Halt → Result State Halt
+state_of (Ok a) = Ok a.1
+state_of (Err halt) = Err halt
 
-  then_handed : (s t u : S) (es : List Entry) (bs : List ℕ) → leads s es [] t → leads t [] bs u → leads s es bs u
-  then_handed s t u es bs h k = let P : List Entry → Type 0 = λ xs. leads s xs bs u in subst P (append-nil es) (joins s t u es [] [] bs h k)
+why_of : (r : Result (Shown × State) Halt) (written : Answer) (why : Status) → IsWhy r written why → IsWhy (state_of r) written why
+why_of (Ok a) (Ok done) why h = h
+why_of (Ok a) (Err status) why h = h
+why_of (Err halt) (Ok done) why h = h
+why_of (Err halt) (Err status) why h = h
+
+module _ {S : Type 0} (uses : Relations S) where
+  pub then_closed : (s t u : S) (bytes : List ℕ) (cause : Cause) → uses.leads s (handed_out bytes) t → uses.leads t (closed_with cause) u → uses.leads s (handing bytes (cause ∷ [])) u
+  then_closed s t u bytes cause h k =
+      let P : List ℕ → Type 0 = λ xs. uses.leads s (handing xs (cause ∷ [])) u in
+      subst P (append-nil bytes) (uses.joins s t u (handed_out bytes) (closed_with cause) h k)
 
   -- a sentence was run, and its prints were written
-  pub ran_shown : (u m v : S) (turns : ℕ) (line : List ℕ) (s s' : State) (shown : Shown) (bytes : List ℕ) (p q : Paper)
-      → Runs leads refuses [] u m (sentence turns line s) (Ok (shown, s')) → leads m [] bytes v → Wrote p q bytes well → Ran leads u v (script turns (line ∷ []) s) s' p q well
-  ran_shown u m v turns line s s' shown bytes p q (es, l, all, h, none) k w = record {
-    entries = es;
+  pub ran_sentence : (u m v : S) (turns : ℕ) (line : List ℕ) (s s' : State) (shown : Shown) (bytes : List ℕ) (p q : Writes)
+      → RunsWhole uses.leads uses.refuses [] u m (sentence turns (line ∷ []) s) (Ok (shown, s')) → uses.leads m (handing bytes []) v → TookAll p bytes q
+      → RanSentence uses.leads turns line (moment u s p) (moment v s' q)
+  ran_sentence u m v turns line s s' shown bytes p q (es, l, h) k w =
+      let P : List Told → Type 0 = λ xs. uses.leads u (record { told = xs; handed = bytes; closed = [] }) v in
+      record {
+        shown = shown;
+        events = es;
+        bytes = bytes;
+        led = subst P (append-nil (told es)) (uses.joins u m v (passing es []) (handing bytes []) l k);
+        did = whichever (uses.refuses m) nothing_refused [] (sentence turns (line ∷ []) s) es (shown, s') h;
+        wrote = w;
+      }
+
+  -- what came of a sentence came of a script of this one
+  one_line : (u m : S) (turns : ℕ) (line : List ℕ) (s : State) (r : Result (Shown × State) Halt)
+      → RunsWhole uses.leads uses.refuses [] u m (sentence turns (line ∷ []) s) r → RunsWhole uses.leads uses.refuses [] u m (script turns (line ∷ []) s) (state_of r)
+  one_line u m turns line s (Ok a) (es, l, h) = (es, l, does_map (uses.refuses m) [] (λ (x : Shown × State). x.1) (sentence turns (line ∷ []) s) es a h)
+  one_line u m turns line s (Err Wait) (es, l, h) = (es, l, does_halt (uses.refuses m) (λ (x : Shown × State). Return x.1) [] (sentence turns (line ∷ []) s) es Wait h)
+  one_line u m turns line s (Err NoMemory) (es, l, h) = (es, l, does_halt (uses.refuses m) (λ (x : Shown × State). Return x.1) [] (sentence turns (line ∷ []) s) es NoMemory h)
+  one_line u m turns line s (Err (Closed cause)) (es, l, h) = (es, l, does_halt (uses.refuses m) (λ (x : Shown × State). Return x.1) [] (sentence turns (line ∷ []) s) es (Closed cause) h)
+
+  -- it halted, or its prints weren't written whole
+  pub stopped : (u m v : S) (turns : ℕ) (line : List ℕ) (s s' : State) (r : Result (Shown × State) Halt) (bytes : List ℕ) (written : Answer) (p q : Writes) (why : Status)
+      → RunsWhole uses.leads uses.refuses [] u m (sentence turns (line ∷ []) s) r → uses.leads m (handing bytes (closing_of written)) v → Wrote p bytes written q → IsWhy r written why
+      → Stopped uses.leads uses.refuses turns (line ∷ []) (moment u s p) (moment v s' q) why
+  stopped u m v turns line s s' r bytes written p q why h l w is = record {
+    halted = state_of r;
+    mid = m;
+    ran = one_line u m turns line s r h;
     bytes = bytes;
-    led = then_handed u m v es bytes l k;
-    all_main = all;
-    comes = ends_map (λ (r : Shown × State). r.1) (sentence turns line s) (exchanges es) (shown, s') h;
+    written = written;
+    led = l;
     wrote = w;
+    is_why = why_of r written why is;
   }
 
-  -- its prints weren't written whole
-  pub ran_broken : (u m v : S) (turns : ℕ) (line : List ℕ) (s s' : State) (r : Result (Shown × State) Halt) (bytes : List ℕ) (p q : Paper) (why : Status)
-      → Runs leads refuses [] u m (sentence turns line s) r → leads m [] bytes v → Wrote p q bytes (ill why) → Ran leads u v (script turns (line ∷ []) s) s' p q (ill why)
-  ran_broken u m v turns line s s' r bytes p q why (es, l, all, h, halted) k w = record {
-    entries = es;
-    bytes = bytes;
-    led = then_handed u m v es bytes l k;
-    all_main = all;
-    comes = begins_bind (λ r. script turns [] r.1) (sentence turns line s) (exchanges es) (comes_begins (sentence turns line s) (exchanges es) r h);
-    wrote = w;
-  }
-
-  -- it halted, and the prints before that were written
-  pub ran_halted : (u m v : S) (turns : ℕ) (line : List ℕ) (s s' : State) (r : Result (Shown × State) Halt) (bytes : List ℕ) (p q : Paper)
-      → Runs leads refuses [] u m (sentence turns line s) r → leads m [] bytes v → Wrote p q bytes well → Ran leads u v (script turns (line ∷ []) s) s' p q (ill status.NoMemory)
-  ran_halted u m v turns line s s' r bytes p q h k w = ran_broken u m v turns line s s' r bytes p q status.NoMemory h k (took_all p.took q.took bytes w.0, λ whole. w.0)
-
-  comes_on : (turns : ℕ) (line : List ℕ) (lines : List (List ℕ)) (s s' s'' : State) (es fs : List Entry) (answer : Answer)
-      → Ends (script turns (line ∷ []) s) (exchanges es) s' → ComesTo (script turns lines s') (exchanges fs) s'' answer → ComesTo (script turns (line ∷ lines) s) (exchanges (es ++ fs)) s'' answer
-  comes_on turns line lines s s' s'' es fs (Ok done) h k =
-      let P : _ → Type 0 = λ xs. Ends (script turns (line ∷ lines) s) xs s'' in
-      subst P (sym (exchanged es fs)) (ends_on (λ (r : Shown × State). r.1) (script turns lines) (sentence turns line s) (exchanges es) (exchanges fs) s' s'' h k)
-  comes_on turns line lines s s' s'' es fs (Err why) h k =
-      let P : _ → Type 0 = λ xs. Begins (script turns (line ∷ lines) s) xs in
-      subst P (sym (exchanged es fs)) (begins_after (λ (r : Shown × State). r.1) (script turns lines) (sentence turns line s) (exchanges es) (exchanges fs) s' h k)
-
-  pub ran_on : (u m v : S) (turns : ℕ) (line : List ℕ) (lines : List (List ℕ)) (s s' s'' : State) (p q r : Paper) (answer : Answer)
-      → Ran leads u m (script turns (line ∷ []) s) s' p q well → Ran leads m v (script turns lines s') s'' q r answer → Ran leads u v (script turns (line ∷ lines) s) s'' p r answer
-  ran_on u m v turns line lines s s' s'' p q r answer one other = record {
-    entries = one.entries ++ other.entries;
-    bytes = one.bytes ++ other.bytes;
-    led = joins u m v one.entries other.entries one.bytes other.bytes one.led other.led;
-    all_main = both_of [] one.entries other.entries one.all_main other.all_main;
-    comes = comes_on turns line lines s s' s'' one.entries other.entries answer one.comes other.comes;
-    wrote = wrote_further p q r one.bytes other.bytes (tt {0}) answer one.wrote other.wrote;
-  }
-
-  comes_to_nothing : (s : State) (answer : Answer) → ComesTo (Return s) [] s answer
-  comes_to_nothing s (Ok done) = refl
-  comes_to_nothing s (Err why) = tt
-
-  -- nothing is left to run
-  ran_out : (u v : S) (turns : ℕ) (s : State) (bytes : List ℕ) (p q : Paper) (answer : Answer)
-      → leads u [] bytes v → Wrote p q bytes answer → Ran leads u v (script turns [] s) s p q answer
-  ran_out u v turns s bytes p q answer l w = record { entries = []; bytes = bytes; led = l; all_main = tt; comes = comes_to_nothing s answer; wrote = w }
+  pub through_on : (turns : ℕ) (line : List ℕ) (lines : List (List ℕ)) (a b c : Moment S)
+      → RanSentence uses.leads turns line a b → RanThrough uses.leads turns lines b c → RanThrough uses.leads turns (line ∷ lines) a c
+  through_on turns line lines a b c one other =
+      let P : List Told → Type 0 = λ xs. uses.leads a.uses (record { told = xs; handed = one.bytes ++ other.bytes; closed = [] }) c.uses in
+      record {
+        events = both one.events other.events;
+        bytes = one.bytes ++ other.bytes;
+        led = subst P (sym (told_both one.events other.events)) (uses.joins a.uses b.uses c.uses (doing one.events one.bytes) (doing other.events other.bytes) one.led other.led);
+        did = does_both nothing_refused (λ (x : Shown × State). script turns lines x.1) [] (sentence turns (line ∷ []) a.state) one.events other.events (one.shown, b.state) (Ok c.state) one.did other.did;
+        wrote = took_on a.sink b.sink c.sink one.bytes other.bytes one.wrote other.wrote;
+      }
 
   -- nothing was done
-  ran_nothing : (u : S) (turns : ℕ) (s : State) (p : Paper) → Ran leads u u (script turns [] s) s p p well
-  ran_nothing u turns s p = ran_out u u turns s [] p p well (stays u) (nothing_appended p.took, refl, refl)
+  ran_nothing : (turns : ℕ) (a : Moment S) → RanThrough uses.leads turns [] a a
+  ran_nothing turns a = record { events = NoMore; bytes = []; led = uses.stays a.uses; did = refl; wrote = took_nothing a.sink }
 
   module _ (drained : S → Type 0) where
     still_out : (u m : S) (first : List (List ℕ)) → ((first ≡ []) × (m ≡ u)) ⊎ drained m → drained u → drained m
@@ -102,79 +102,57 @@ module _ {S : Type 0} (leads : S → List Entry → List ℕ → S → Type 0) (
     still_out u m first (inr all) out = all
 
     -- a sentence was run and its prints were written, and this came of the others
-    pub went_on : (u m v : S) (turns : ℕ) (line : List ℕ) (lines : List (List ℕ)) (s s' s'' : State) (p q r : Paper) (answer : Answer)
-        → Ran leads u m (script turns (line ∷ []) s) s' p q well → drained m → Went leads drained turns m v lines s' s'' q r answer → Went leads drained turns u v (line ∷ lines) s s'' p r answer
-    went_on u m v turns line lines s s' s'' p q r (Ok done) one out other = (ran_on u m v turns line lines s s' s'' p q r well one other.0, other.1)
-    went_on u m v turns line lines s s' s'' p q r (Err why) one out other = record {
+    pub went_on : (turns : ℕ) (line : List ℕ) (lines : List (List ℕ)) (a b c : Moment S) (answer : Answer)
+        → RanSentence uses.leads turns line a b → drained b.uses → Went uses.leads uses.refuses drained turns lines b c answer → Went uses.leads uses.refuses drained turns (line ∷ lines) a c answer
+    went_on turns line lines a b c (Ok done) one out other = (through_on turns line lines a b c one other.0, other.1)
+    went_on turns line lines a b c (Err why) one out other = record {
       first = line ∷ other.first;
       now = other.now;
       later = other.later;
       split = ap (λ l. line ∷ l) other.split;
       one = other.one;
-      mid = other.mid;
       between = other.between;
-      sheet = other.sheet;
-      ran = ran_on u m other.mid turns line other.first s s' other.between p q other.sheet well one other.ran;
-      all_out = inr (still_out m other.mid other.first other.all_out out);
-      broke = other.broke;
+      ran = through_on turns line other.first a b other.between one other.ran;
+      all_out = inr (still_out b.uses other.between.uses other.first other.all_out out);
+      stopped = other.stopped;
       none_left = other.none_left;
     }
 
     -- the session broke off in a sentence
-    pub went_down : (u v : S) (turns : ℕ) (line : List ℕ) (lines : List (List ℕ)) (s s' : State) (p q : Paper) (why : Status)
-        → Ran leads u v (script turns (line ∷ []) s) s' p q (ill why) → (q.whole ≡ true → drained v) → Went leads drained turns u v (line ∷ lines) s s' p q (ill why)
-    went_down u v turns line lines s s' p q why one out = record {
+    pub went_down : (turns : ℕ) (line : List ℕ) (lines : List (List ℕ)) (a c : Moment S) (why : Status)
+        → Stopped uses.leads uses.refuses turns (line ∷ []) a c why → (c.sink.whole ≡ true → drained c.uses) → Went uses.leads uses.refuses drained turns (line ∷ lines) a c (ill why)
+    went_down turns line lines a c why one out = record {
       first = [];
       now = line ∷ [];
       later = lines;
       split = refl;
       one = omega arith;
-      mid = u;
-      between = s;
-      sheet = p;
-      ran = ran_nothing u turns s p;
+      between = a;
+      ran = ran_nothing turns a;
       all_out = inl (refl, refl);
-      broke = one;
+      stopped = one;
       none_left = out;
     }
 
     -- nothing is left to run, and what was printed is written, or not
-    pub went_out : (u v : S) (turns : ℕ) (s : State) (bytes : List ℕ) (p q : Paper) (answer : Answer)
-        → leads u [] bytes v → OnOk answer (drained v) → (q.whole ≡ true → drained v) → Wrote p q bytes answer → Went leads drained turns u v [] s s p q answer
-    went_out u v turns s bytes p q (Ok done) l out left w = (ran_out u v turns s bytes p q well l w, out)
-    went_out u v turns s bytes p q (Err why) l out left w = record {
+    pub went_out : (turns : ℕ) (u v : S) (s : State) (bytes : List ℕ) (p q : Writes) (answer : Answer)
+        → uses.leads u (handing bytes (closing_of answer)) v → OnOk answer (drained v) → (q.whole ≡ true → drained v) → Wrote p bytes answer q
+        → Went uses.leads uses.refuses drained turns [] (moment u s p) (moment v s q) answer
+    went_out turns u v s bytes p q (Ok done) l out left w = (record { events = NoMore; bytes = bytes; led = l; did = refl; wrote = w }, out)
+    went_out turns u v s bytes p q (Err why) l out left w = record {
       first = [];
       now = [];
       later = [];
       split = refl;
       one = omega arith;
-      mid = u;
-      between = s;
-      sheet = p;
-      ran = ran_nothing u turns s p;
+      between = moment u s p;
+      ran = ran_nothing turns (moment u s p);
       all_out = inl (refl, refl);
-      broke = ran_out u v turns s bytes p q (ill why) l w;
+      stopped = record { halted = Ok s; mid = u; ran = (NoMore, uses.stays u, refl); bytes = bytes; written = Err why; led = l; wrote = w; is_why = refl };
       none_left = left;
     }
 
     -- what comes of the rest comes of the whole
-    abbrev pub Stage : S → ℕ → List (List ℕ) → State → Paper → S → List (List ℕ) → State → Paper → Type 0
-    Stage u turns lines s p m rest t q =
-        (v : S) (s' : State) (r : Paper) (answer : Answer) → Went leads drained turns m v rest t s' q r answer → Went leads drained turns u v lines s s' p r answer
-
-    -- what a session did until it broke off
-    pub ran_of_broke : (u v : S) (turns : ℕ) (lines : List (List ℕ)) (s s' : State) (p r : Paper) (why : Status)
-        → Broke leads drained turns u v lines s s' p r why → Ran leads u v (script turns lines s) s' p r (ill why)
-    ran_of_broke u v turns lines s s' p r why b =
-        let es = b.ran.entries in
-        let fs = b.broke.entries in
-        let P : List (Use × Reply) → Type 0 = λ xs. Begins (script turns lines s) xs in
-        let Q : List (List ℕ) → Type 0 = λ ls. Begins (script turns ls s) (exchanges es ++ exchanges fs) in
-        record {
-          entries = es ++ fs;
-          bytes = b.ran.bytes ++ b.broke.bytes;
-          led = joins u b.mid v es fs b.ran.bytes b.broke.bytes b.ran.led b.broke.led;
-          all_main = both_of [] es fs b.ran.all_main b.broke.all_main;
-          comes = subst P (sym (exchanged es fs)) (subst Q (sym b.split) (script_begins turns b.first (b.now ++ b.later) s b.between (exchanges es) (exchanges fs) b.ran.comes (more_begin turns b.now b.later b.between (exchanges fs) b.broke.comes)));
-          wrote = wrote_further p b.sheet r b.ran.bytes b.broke.bytes (tt {0}) (ill why) b.ran.wrote b.broke.wrote;
-        }
+    abbrev pub Stage : ℕ → List (List ℕ) → Moment S → List (List ℕ) → Moment S → Type 0
+    Stage turns lines a rest b =
+        (c : Moment S) (answer : Answer) → Went uses.leads uses.refuses drained turns rest b c answer → Went uses.leads uses.refuses drained turns lines a c answer

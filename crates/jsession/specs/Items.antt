@@ -1,7 +1,7 @@
 -- The items of a script: the sentences that its bytes give (J Dictionary, "Sentences": a line is a sentence).
 use Rattle.std.specs.Prelude.{ℕ, ◌==◌, ◌||◌, not, nat_lt, Bool, false, if◌then◌else◌, List, [], ◌∷◌, filter, length}
 use Rattle.std.specs.List.{list_all}
-use Rattle.jeval.specs.Showing.{line_limit}
+use Rattle.jeval.specs.Sentence.{line_limit}
 use Rattle.jsession.specs.declared.reading.Reading.{Reading}
 use Rattle.jsession.specs.declared.reading.Reading.TheVariants.{Whole, Broken, Long, Short}
 use Rattle.jwords.specs.Alphabet.{is_blank, line_feed}

@@ -1,52 +1,92 @@
--- What a session did: its uses, the prints that it wrote of them, and its status.
-use Rattle.std.specs.Prelude.{ℕ, ◌≡◌, Bool, true, false, List, [], Option, Result, Ok, Err}
-use Rattle.std.specs.Io.KnownBytes.{Appends}
+-- What a session did of its sentences: their uses, and the prints that it wrote.
+use Rattle.std.specs.Prelude.{ℕ, ◌≡◌, List, [], ◌∷◌, Result, Ok, Err}
+use Rattle.jeval.specs.Sentence.{sentence}
+use Rattle.jeval.specs.declared.sentence.Shown.{Shown}
 use Rattle.jeval.specs.declared.state.State.{State}
-use Rattle.jio.specs.Counts.{Rises}
-use Rattle.jio.specs.Sink.{TookPart}
+use Rattle.jio.specs.Counts.{counted}
+use Rattle.jio.specs.Sink.{Writes, TookAll, TookNothing, FailedToWrite}
+use Rattle.jsession.specs.Script.{script, DidAll}
 use Rattle.jsession.specs.declared.reading.Reading.{Reading}
 use Rattle.jsession.specs.declared.reading.Reading.TheVariants as how
 use Rattle.jsession.specs.declared.status.Status.{Status}
 use Rattle.jsession.specs.declared.status.Status.TheVariants as status
-use Rattle.juses.specs.OldestFirst.{AllOf, exchanges}
-use Rattle.juses.specs.Program.{Program, Ends, Begins}
-use Rattle.juses.specs.declared.uses.Entry.{Entry}
-use Rattle.juses.specs.declared.uses.Reply.{Reply}
-use Rattle.juses.specs.declared.uses.Use.{Use}
+use Rattle.juses.specs.Events.{Events, told}
+use Rattle.juses.specs.Told.{Passed}
+use Rattle.juses.specs.declared.uses.Cause.{Cause}
+use Rattle.juses.specs.declared.uses.Cause.TheVariants as cause
 
--- what a sink took, its faults, and whether each write was answered All
-pub record Paper : Type 0 where
-  pub took : Option (List ℕ)
-  pub faults : ℕ
-  pub whole : Bool
+-- it went well, or the session has to end with this status
+abbrev pub Answer : Type 0
+Answer = Result (Unit {0}) Status
 
-abbrev pub paper : Option (List ℕ) → ℕ → Bool → Paper
-paper took faults whole = record { took = took; faults = faults; whole = whole }
+abbrev pub well : Answer
+well = Ok tt
 
--- the bytes were written; after a failed write, or for want of memory, a beginning of them, and all of them where each
--- write was answered All
-abbrev pub Wrote : {A : Type 0} → Paper → Paper → List ℕ → Result A Status → Type 0
-Wrote before after bytes (Ok done) = Appends before.took after.took bytes × (after.faults ≡ before.faults) × (after.whole ≡ before.whole)
-Wrote before after bytes (Err status.WriteFault) = TookPart before.took after.took bytes × Rises before.faults after.faults × (after.whole ≡ false)
-Wrote before after bytes (Err status.NoMemory) = TookPart before.took after.took bytes × (after.whole ≡ true → Appends before.took after.took bytes)
-Wrote before after bytes (Err status.Done) = ⊥
-Wrote before after bytes (Err status.Usage) = ⊥
-Wrote before after bytes (Err status.ReadFault) = ⊥
-Wrote before after bytes (Err status.TooLong) = ⊥
+abbrev pub ill : Status → Answer
+ill why = Err why
 
--- the program came to its end, or the session ended before that
-abbrev pub ComesTo : {A : Type 0} → Program Use Reply State → List (Use × Reply) → State → Result A Status → Type 0
-ComesTo program es state (Ok done) = Ends program es state
-ComesTo program es state (Err why) = Begins program es
+-- what became of a piece
+abbrev pub Wrote : Writes → List ℕ → Answer → Writes → Type 0
+Wrote old piece (Ok done) new = TookAll old piece new
+Wrote old piece (Err status.WriteFault) new = FailedToWrite old piece new
+Wrote old piece (Err status.NoMemory) new = TookNothing old new
+Wrote old piece (Err status.Done) new = ⊥
+Wrote old piece (Err status.Usage) new = ⊥
+Wrote old piece (Err status.ReadFault) new = ⊥
+Wrote old piece (Err status.TooLong) new = ⊥
 
--- main made uses of the program, the prints among them were handed out and written, and this is what came of it
-pub record Ran {S A : Type 0} (leads : S → List Entry → List ℕ → S → Type 0) (old new : S) (program : Program Use Reply State) (state : State) (before after : Paper) (answer : Result A Status) : Type 0 where
-  pub entries : List Entry
+-- a piece is one write, and none where there is nothing in it
+abbrev pub calls_after : List ℕ → ℕ → ℕ
+calls_after [] calls = calls
+calls_after (byte ∷ piece) calls = counted calls
+
+-- why the session is closed at this status, where it is
+abbrev pub cause_of : Status → Cause
+cause_of status.WriteFault = cause.WriteFault
+cause_of status.NoMemory = cause.NoMemory
+cause_of status.Done = cause.NoMemory
+cause_of status.Usage = cause.NoMemory
+cause_of status.ReadFault = cause.NoMemory
+cause_of status.TooLong = cause.NoMemory
+
+-- the session is closed where a piece isn't written whole
+abbrev pub closing_of : Answer → List Cause
+closing_of (Ok done) = []
+closing_of (Err why) = cause_of why ∷ []
+
+-- prints were handed out, and the session was perhaps closed
+abbrev pub handing : List ℕ → List Cause → Passed
+handing bytes closed = record { told = []; handed = bytes; closed = closed }
+
+-- uses were made and prints handed out, and the session was not closed
+abbrev pub doing : Events → List ℕ → Passed
+doing events bytes = record { told = told events; handed = bytes; closed = [] }
+
+-- the uses, main's state and the sink at some moment of a script
+pub record Moment (S : Type 0) : Type 0 where
+  pub uses : S
+  pub state : State
+  pub sink : Writes
+
+abbrev pub moment : {S : Type 0} → S → State → Writes → Moment S
+moment uses state sink = record { uses = uses; state = state; sink = sink }
+
+-- a sentence was run to its end, refused or not, its prints were written, and the session was not closed
+pub record RanSentence {S : Type 0} (leads : S → Passed → S → Type 0) (turns : ℕ) (line : List ℕ) (old new : Moment S) : Type 0 where
+  pub shown : Shown
+  pub events : Events
   pub bytes : List ℕ
-  pub led : leads old entries bytes new
-  pub all_main : AllOf [] entries
-  pub comes : ComesTo program (exchanges entries) state answer
-  pub wrote : Wrote before after bytes answer
+  pub led : leads old.uses (doing events bytes) new.uses
+  pub did : DidAll (sentence turns (line ∷ []) old.state) events (shown, new.state)
+  pub wrote : TookAll old.sink bytes new.sink
+
+-- so were these, one after another
+pub record RanThrough {S : Type 0} (leads : S → Passed → S → Type 0) (turns : ℕ) (lines : List (List ℕ)) (old new : Moment S) : Type 0 where
+  pub events : Events
+  pub bytes : List ℕ
+  pub led : leads old.uses (doing events bytes) new.uses
+  pub did : DidAll (script turns lines old.state) events new.state
+  pub wrote : TookAll old.sink bytes new.sink
 
 abbrev pub status_after : Reading → Status
 status_after how.Whole = status.Done
@@ -55,6 +95,6 @@ status_after how.Long = status.TooLong
 status_after how.Short = status.NoMemory
 
 -- the status of a session that read its script so, and ran it so
-abbrev pub final : Reading → Result (Unit {0}) Status → Status
+abbrev pub final : Reading → Answer → Status
 final how (Ok done) = status_after how
 final how (Err why) = why

@@ -1,6 +1,6 @@
 //! Reading a script.
 ghost use Rattle.std.specs.Prelude.{◌≡◌, ◌≤◌, ◌<◌, ◌+◌, ◌++◌, length, OnOk};
-ghost use Rattle.jsession.specs.Reads.{IsRead, IsKept, side};
+ghost use Rattle.jsession.specs.Reads.{IsRead, IsKept};
 
 use jdata::NoMemory;
 use jio::{Got, Source};
@@ -53,11 +53,11 @@ fn keep(bytes: &mut Vec<u8>, piece: &[u8]) -> Option<Reading>
     }
 }
 
-/// The bytes of a script, and how their reading ended. Nothing is read past the first byte beyond the limit, and that
-/// byte isn't given.
+/// The bytes of a script, and how their reading ended. Nothing is read after a failed read, after the end or past the
+/// first byte beyond the limit, and that byte isn't given.
 pub(crate) fn read_script<S: Source>(alloc: Global, script: &mut S) -> (Vec<u8>, Reading)
-    ensures read { IsRead (side (S.left script.old) (S.given script.old) (S.faults script.old)) (side (S.left script.new) (S.given script.new) (S.faults script.new)) result.1 result.0.items }
-    ensures count { S.faults script.old ≤ S.faults script.new }
+    ensures read { IsRead (S.reads script.old) (S.reads script.new) result.1 result.0.items }
+    ensures count { (S.reads script.old).faults ≤ (S.reads script.new).faults }
 {
     let mut bytes = Vec::new(alloc);
     let mut chunk = [0; CHUNK];

@@ -1,12 +1,13 @@
 //! Running the sentences of a script.
-ghost use Rattle.std.specs.Prelude.{◌≡◌, ◌≤◌, ◌∷◌, [], List, ℕ, true, false, OnOk, OnErr};
-ghost use Rattle.jeval.specs.Made.{Runs, beside};
-ghost use Rattle.jeval.specs.Session.{moved_on};
-ghost use Rattle.jeval.specs.Showing.{sentence};
+ghost use Rattle.std.specs.Prelude.{◌≡◌, ◌≤◌, ◌+◌, ◌∷◌, [], List, ℕ, true, false, length, OnOk, OnErr, MatchResult};
+ghost use Rattle.jeval.specs.Eval.{moved_on};
+ghost use Rattle.jeval.specs.Made.{beside};
+ghost use Rattle.jeval.specs.Sentence.{sentence};
+ghost use Rattle.juses.specs.Events.{RunsWhole};
 ghost use Rattle.jsession.specs.Items.{sentences};
-ghost use Rattle.jsession.specs.Broke.{Went};
-ghost use Rattle.jsession.specs.Ran.{Ran, Wrote, paper};
-ghost use Rattle.jsession.specs.Script.{script};
+ghost use Rattle.jsession.specs.Broke.{Went, Stopped};
+ghost use Rattle.jsession.specs.Ran as ran;
+ghost use Rattle.jsession.specs.Sessions.{at};
 
 use crate::items::is_sentence;
 use crate::status::Status;
@@ -17,11 +18,12 @@ use juses::{Cause, Halt, Uses};
 use jwords::next_line;
 use std::alloc::Global;
 
-// Writes a piece, where there is something in it.
+// Writes a piece in one write, where there is something in it.
 fn send<K: Sink>(piece: &[u8], out: &mut K) -> Result<(), Status>
-    ensures wrote { Wrote (paper (K.took out.old) (K.faults out.old) (K.whole out.old)) (paper (K.took out.new) (K.faults out.new) (K.whole out.new)) piece.now result }
-    ensures cut { OnErr result (K.whole out.new ≡ false) }
-    ensures count { K.faults out.old ≤ K.faults out.new }
+    ensures wrote { ran.Wrote (K.writes out.old) piece.now result (K.writes out.new) }
+    ensures one { (K.writes out.new).calls ≡ ran.calls_after piece.now (K.writes out.old).calls }
+    ensures cut { OnErr result ((K.writes out.new).whole ≡ false) }
+    ensures count { (K.writes out.old).faults ≤ (K.writes out.new).faults }
 {
     if piece.is_empty() {
         return Ok(());
@@ -34,20 +36,24 @@ fn send<K: Sink>(piece: &[u8], out: &mut K) -> Result<(), Status>
 }
 
 // Why the session is closed.
-fn cause_of(status: Status) -> Cause {
+fn cause_of(status: Status) -> Cause
+    ensures { result ≡ ran.cause_of status }
+{
     match status {
         Status::WriteFault => Cause::WriteFault,
         _ => Cause::NoMemory,
     }
 }
 
-// Writes what was printed and not written yet.
+// Writes what was printed and not written yet, in one piece. The session is closed where that isn't written whole.
 fn send_prints<U: Uses, K: Sink>(eval: &mut Eval<U>, out: &mut K) -> Result<(), Status>
-    ensures wrote { (bytes : List ℕ) × U.leads eval.old.uses [] bytes eval.new.uses × Wrote (paper (K.took out.old) (K.faults out.old) (K.whole out.old)) (paper (K.took out.new) (K.faults out.new) (K.whole out.new)) bytes result }
+    requires { U.heads eval.old.uses }
+    ensures wrote { (bytes : List ℕ) × U.leads eval.old.uses (ran.handing bytes (ran.closing_of result)) eval.new.uses × ran.Wrote (K.writes out.old) bytes result (K.writes out.new) }
+    ensures one { (K.writes out.new).calls ≤ (K.writes out.old).calls + 1 }
     ensures all { OnOk result (U.drained eval.new.uses) }
-    ensures none_left { K.whole out.new ≡ true → U.drained eval.new.uses }
+    ensures none_left { (K.writes out.new).whole ≡ true → U.drained eval.new.uses }
     ensures same { eval.new ≡ moved_on eval.old eval.new.uses eval.old.state }
-    ensures count { K.faults out.old ≤ K.faults out.new }
+    ensures count { (K.writes out.old).faults ≤ (K.writes out.new).faults }
 {
     let piece = eval.take_prints();
     match send(piece.items(), out) {
@@ -61,7 +67,7 @@ fn send_prints<U: Uses, K: Sink>(eval: &mut Eval<U>, out: &mut K) -> Result<(), 
 
 // Evaluates one sentence.
 fn evaluate<U: Uses>(alloc: Global, eval: &mut Eval<U>, line: &[u8]) -> Result<Shown, Halt>
-    ensures uses { Runs U.leads U.refuses eval.old.who eval.old.uses eval.new.uses (sentence eval.old.turns line.now eval.old.state) (beside result eval.new.state) }
+    ensures uses { RunsWhole U.leads U.refuses eval.old.who eval.old.uses eval.new.uses (sentence eval.old.turns (line.now ∷ []) eval.old.state) (beside result eval.new.state) }
     ensures same { eval.new ≡ moved_on eval.old eval.new.uses eval.new.state }
 {
     match Vec::from_slice(alloc, line) {
@@ -80,12 +86,17 @@ fn run_sentence<U: Uses, K: Sink>(
     line: &[u8],
     out: &mut K,
 ) -> Result<(), Status>
-    requires { eval.old.who ≡ [] }
-    ensures ran { Ran U.leads eval.old.uses eval.new.uses (script eval.old.turns (line.now ∷ []) eval.old.state) eval.new.state (paper (K.took out.old) (K.faults out.old) (K.whole out.old)) (paper (K.took out.new) (K.faults out.new) (K.whole out.new)) result }
+    requires main { eval.old.who ≡ [] }
+    requires heads { U.heads eval.old.uses }
+    ensures ran { MatchResult result
+        (λ done. ran.RanSentence U.leads eval.old.turns line.now (at eval.old (K.writes out.old)) (at eval.new (K.writes out.new)))
+        (λ why. Stopped U.leads U.refuses eval.old.turns (line.now ∷ []) (at eval.old (K.writes out.old)) (at eval.new (K.writes out.new)) why) }
+    ensures one { (K.writes out.new).calls ≤ (K.writes out.old).calls + 1 }
     ensures all { OnOk result (U.drained eval.new.uses) }
-    ensures none_left { K.whole out.new ≡ true → U.drained eval.new.uses }
+    ensures none_left { (K.writes out.new).whole ≡ true → U.drained eval.new.uses }
+    ensures heads { U.heads eval.new.uses }
     ensures same { eval.new ≡ moved_on eval.old eval.new.uses eval.new.state }
-    ensures count { K.faults out.old ≤ K.faults out.new }
+    ensures count { (K.writes out.old).faults ≤ (K.writes out.new).faults }
 {
     let shown = evaluate(alloc, eval, line);
     match send_prints(eval, out) {
@@ -104,10 +115,12 @@ pub(crate) fn run_lines<U: Uses, K: Sink>(
     lines: &[u8],
     out: &mut K,
 ) -> Result<(), Status>
-    requires { eval.old.who ≡ [] }
-    ensures went { Went U.leads U.drained eval.old.turns eval.old.uses eval.new.uses (sentences lines.now) eval.old.state eval.new.state (paper (K.took out.old) (K.faults out.old) (K.whole out.old)) (paper (K.took out.new) (K.faults out.new) (K.whole out.new)) result }
+    requires main { eval.old.who ≡ [] }
+    requires heads { U.heads eval.old.uses }
+    ensures went { Went U.leads U.refuses U.drained eval.old.turns (sentences lines.now) (at eval.old (K.writes out.old)) (at eval.new (K.writes out.new)) result }
+    ensures pieces { (K.writes out.new).calls ≤ (K.writes out.old).calls + length (sentences lines.now) + 1 }
     ensures same { eval.new ≡ moved_on eval.old eval.new.uses eval.new.state }
-    ensures count { K.faults out.old ≤ K.faults out.new }
+    ensures count { (K.writes out.old).faults ≤ (K.writes out.new).faults }
 {
     let mut rest = lines;
     while !rest.is_empty() {

@@ -1,10 +1,9 @@
 //! The session of a script.
 ghost use Rattle.std.specs.Prelude.{◌≡◌, ◌≤◌, []};
-ghost use Rattle.jeval.specs.Session.{moved_on};
+ghost use Rattle.jeval.specs.Eval.{moved_on};
 ghost use Rattle.jsession.specs.Items.{sentences, items_of};
 ghost use Rattle.jsession.specs.Ran as ran;
-ghost use Rattle.jsession.specs.Reads.{side};
-ghost use Rattle.jsession.specs.Sessions.{SessionRan};
+ghost use Rattle.jsession.specs.Sessions.{SessionRan, at};
 
 use crate::items::ended;
 use crate::reading::{Reading, read_script};
@@ -46,13 +45,12 @@ pub fn run<U: Uses, S: Source, K: Sink>(
     script: &mut S,
     out: &mut K,
 ) -> Status
-    requires { eval.old.who ≡ [] }
-    ensures session { SessionRan U.leads U.drained eval.old eval.new
-        (side (S.left script.old) (S.given script.old) (S.faults script.old)) (side (S.left script.new) (S.given script.new) (S.faults script.new))
-        (ran.paper (K.took out.old) (K.faults out.old) (K.whole out.old)) (ran.paper (K.took out.new) (K.faults out.new) (K.whole out.new)) result }
+    requires main { eval.old.who ≡ [] }
+    requires heads { U.heads eval.old.uses }
+    ensures session { SessionRan U.leads U.refuses U.drained eval.old.turns (S.reads script.old) (S.reads script.new) (at eval.old (K.writes out.old)) (at eval.new (K.writes out.new)) result }
     ensures same { eval.new ≡ moved_on eval.old eval.new.uses eval.new.state }
-    ensures reads { S.faults script.old ≤ S.faults script.new }
-    ensures writes { K.faults out.old ≤ K.faults out.new }
+    ensures reads { (S.reads script.old).faults ≤ (S.reads script.new).faults }
+    ensures writes { (K.writes out.old).faults ≤ (K.writes out.new).faults }
 {
     let (bytes, how) = read_script(alloc, script);
     match run_lines(alloc, eval, running_part(&bytes, how), out) {

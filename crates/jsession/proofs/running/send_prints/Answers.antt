@@ -1,12 +1,16 @@
-use Rattle.std.proofs.Common.{List, ℕ, Err, subst}
-use Rattle.jsession.specs.Ran.{Wrote, paper}
+use Rattle.std.proofs.Common.{[], ◌∷◌, List, ℕ, subst}
+use Rattle.juses.proofs.Doing.{Relations}
+use Rattle.juses.specs.declared.uses.Cause.{Cause}
+use Rattle.jsession.specs.Ran.{Wrote, ill, handing}
 use Rattle.jsession.proofs.Sessions.{then_closed}
 use Rattle.jsession.proofs.running.send_prints.Goals as goal
 
 pub returns-clause-wrote : goal.returns-clause-wrote
 returns-clause-wrote g c =
-    let P : List ℕ → Type 0 = λ bytes. Wrote {A = Unit {0}} (paper (g.K.Sink.took c.args.out.now) (g.K.Sink.faults c.args.out.now) (g.K.Sink.whole c.args.out.now)) (paper (g.K.Sink.took c.send.new.out) (g.K.Sink.faults c.send.new.out) (g.K.Sink.whole c.send.new.out)) bytes (Err c.in-Err.status) in (
+    let u : Relations g.row.U.Denot = record { leads = g.U.Uses.leads; refuses = g.U.Uses.refuses; stays = g.met.U.Uses.stays; joins = g.met.U.Uses.joins } in
+    let P : List ℕ → Type 0 = λ bytes. Wrote (g.K.Sink.writes c.args.out.now) bytes (ill c.in-Err.status) (g.K.Sink.writes c.send.new.out) in
+    let Q : Cause → Type 0 = λ cause. g.U.Uses.leads c.args.eval.now.uses (handing c.take_prints-piece.result (cause ∷ [])) c.close.new.self.uses in (
       c.take_prints-piece.result,
-      then_closed g.U.Uses.leads g.U.Uses.refuses g.met.U.Uses.stays g.met.U.Uses.joins c.args.eval.now.uses c.take_prints-piece.new.self.uses c.close.new.self.uses c.take_prints-piece.result c.take_prints-piece.ensures.uses c.close.ensures.uses,
+      subst Q c.cause_of.ensures (then_closed u c.args.eval.now.uses c.take_prints-piece.new.self.uses c.close.new.self.uses c.take_prints-piece.result c.cause_of.result c.take_prints-piece.ensures.uses c.close.ensures.uses),
       subst P c.items.ensures c.in-Err.ensures.wrote,
     )
