@@ -1,6 +1,6 @@
 //! What one thread does at a counter.
 ghost use Rattle.std.specs.Prelude.{◌≡◌, ◌≢◌, ◌%◌, ◌^◌, [], ◌∷◌, sum};
-ghost use Rattle.jturn.specs.Pass.{Grows};
+ghost use Rattle.jturn.specs.Pass.{Grew};
 
 use crate::counter::Counter;
 use jturn::{Turn, TurnPass};
@@ -9,7 +9,7 @@ use std::sync::Wait;
 // Adds x in a turn of its own.
 fn add<R: Wait>(rt: &R, turn: &Turn<Counter>, pass: TurnPass<Counter>, x: u32) -> TurnPass<Counter>
     requires { pass.turn ≡ turn.now.name }
-    ensures { Grows pass (x ∷ []) result }
+    ensures { Grew pass (x ∷ []) result }
 {
     let mut guard = turn.enter(rt, pass);
     let counter = guard.state();
@@ -25,7 +25,7 @@ pub fn add_all<R: Wait>(
     xs: &[u32],
 ) -> TurnPass<Counter>
     requires { pass.turn ≡ turn.now.name }
-    ensures { Grows pass xs.now result }
+    ensures { Grew pass xs.now result }
 {
     let mut pass = pass;
     for x in xs {
@@ -41,7 +41,7 @@ pub fn wait_for_some<R: Wait>(
     pass: TurnPass<Counter>,
 ) -> TurnPass<Counter>
     requires { pass.turn ≡ turn.now.name }
-    ensures grows { Grows pass [] result }
+    ensures grows { Grew pass [] result }
     ensures some { sum result.seen % 2 ^ 64 ≢ 0 }
 {
     let mut pass = pass;

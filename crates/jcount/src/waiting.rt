@@ -1,6 +1,6 @@
 //! Workers that only wait.
 ghost use Rattle.std.specs.Prelude.{◌≡◌, ◌+◌, ◌<◌, ◌^◌, [], All, IfOk, vec_len};
-ghost use Rattle.jturn.specs.Pass.{Grows};
+ghost use Rattle.jturn.specs.Pass.{Grew};
 ghost use Rattle.jcount.specs.Workers.{IsWorker};
 
 use crate::counter::Counter;
@@ -21,7 +21,7 @@ pub fn rest<R: Wait>(
     stop: &AtomicBool,
 ) -> TurnPass<Counter>
     requires { pass.turn ≡ turn.now.name }
-    ensures { Grows pass [] result }
+    ensures { Grew pass [] result }
 {
     let mut pass = pass;
     for _ in rt.forever() {

@@ -84,12 +84,18 @@ module _ {E : Type 0} where
     mark = if other.is_marker then other.mark else one.mark;
   }
 
-  -- What turns make of a pass that make these entries: it has seen more, and its entries are those before and then these
-  pub record Grows (before : Pass E) (made : List E) (after : Pass E) : Type 0 where
+  -- These entries were added at these positions, in this order, between two histories: each stands right after a history that begins with all that stood before it
+  abbrev pub Placed : List E → List E → List ℕ → List E → Type 0
+  Placed from [] places to = (places ≡ []) × StartsWith to from
+  Placed from (e ∷ es) places to =
+      (log : List E) × (rest : List ℕ) × (places ≡ length log ∷ rest) × StartsWith log from × Placed (log ++ e ∷ []) es rest to
+
+  -- What turns make of a pass that make these entries: its positions are those before and then the places of these, in their order. The mark is not told: the marker's own turns may change it
+  pub record Grew (before : Pass E) (made : List E) (after : Pass E) : Type 0 where
     pub turn : after.turn ≡ before.turn
     pub seen : StartsWith after.seen before.seen
+    pub own : (places : List ℕ) × (after.own ≡ before.own ++ places) × Placed before.seen made places after.seen
     pub entries : entries_at after.seen after.own ≡ entries_at before.seen before.own ++ made
     pub parts : after.parts ≡ before.parts
     pub is_marker : after.is_marker ≡ before.is_marker
-    pub mark : before.is_marker ≡ true → after.mark ≡ before.mark
     pub constant : after.constant ≡ before.constant

@@ -15,7 +15,7 @@ use std::snapshot::Snapshot;
 use std::sync::Wait;
 
 // How often a pass looks before it sleeps in line. A turn is mostly short, and sleeping costs more than some looks.
-const LOOKS_AWAKE: u32 = 100;
+const LOOKS_AWAKE: u32 = 1_000;
 
 /// It has the state. End it by `commit` or `back`: no other pass is served before.
 pub struct Guard<'a, S: Logged> {

@@ -17,7 +17,8 @@ use denote.SharingLaws.{beside_shr_laws, one_shr_laws, nothing_shr_laws}
 use denote.Struct.Lending.{Lends, Lends-both, Lends-nothing, Lends-lies, lent_at_shr_laws, in_block_says}
 use denote.Steps.{nothing as empty_entry}
 use Rattle.atomic_table.specs.Seated.{fact}
-use Rattle.jyard.specs.Units.{BlockId, age, id_at, marks, whole, shown, stamp, parts, part_shares, seat_owns, seat_shares, inner, Placed, Spans, common, block_owns, block_shares, blocks_own, blocks_share, table_owns, table_shares}
+use Rattle.jyard.specs.Units.{BlockId, age, id_at, marks, whole, shown, stamp, parts, part_shares, seat_owns, seat_has, seat_shares, seat_shows, sits, holder, inner, Placed, Spans, common, block_owns, block_shares, blocks_own, blocks_share, table_owns, table_shares}
+use Rattle.jyard.specs.Logs.{Entry}
 use Rattle.jyard.proofs.Rounds.{lent_laws, Lends-part, Owns, Lent, part_sees}
 
 module _ (R : RattleType) (p w : Ptr) (empty : R.Denot) where
@@ -101,6 +102,13 @@ module _ (R : RattleType) (L : RowLaws R) (p : Ptr) (z : BlockId) where
     Lends-seat (suc (suc zero)) a x = Lends-both 𝓛 (out z.alone_name) (whole R p z x) nothing (Sh x) l (Lends-nothing 𝓛 (out z.alone_name) l) (Lends-lies 𝓛 R l p x (shares x))
     Lends-seat (suc (suc (suc k))) a x = Lends-both 𝓛 (out z.emptying_name) (whole R p z x) nothing (Sh x) l (Lends-nothing 𝓛 (out z.emptying_name) l) (Lends-lies 𝓛 R l p x (shares x))
 
+  pub seat_shows_laws : (right a : ℕ) (x : R.Denot) → ShrLaws (seat_shows R p z right a x)
+  seat_shows_laws right a x = beside_shr_laws (seat_shares R p z right a x) nothing (seat_laws right a x) nothing_shr_laws
+
+  module _ {M : Type 1} {𝓤 : Ura M} (𝓛 : Logic 𝓤) (l : Lft) (shares : Shares 𝓛 R l) where
+    pub Lends-holder : (right a : ℕ) (x : R.Denot) (i : ℕ) (steps : List Entry) → Lends 𝓛 (seat_has R p z right a x i steps) (seat_shows R p z right a x) l
+    Lends-holder right a x i steps = let S : Fml = sits z i (holder right steps) in Lends-both 𝓛 (seat_owns R p z right a x) S (seat_shares R p z right a x) nothing l (Lends-seat 𝓛 l shares right a x) (Lends-nothing 𝓛 S l)
+
   module _ {M : Type 1} {𝓤 : Ura M} (𝓛 : Logic 𝓤) where
     -- what a `&` to a seat with a right shows
     pub seat_sees : (right a : ℕ) (x : R.Denot) (κ : Lft) → 0 < right → ent 𝓤 (sem 𝓛 (seat_shares R p z right a x κ)) (sem 𝓛 (Sh x κ))
@@ -115,6 +123,9 @@ module _ (R : RattleType) (L : RowLaws R) (p : Ptr) (z : BlockId) where
   beside_whole (suc (suc zero)) = out z.alone_name
   beside_whole (suc (suc (suc k))) = out z.emptying_name
 
+  abbrev pub beside_value : ℕ → ℕ → List Entry → Fml
+  beside_value right i steps = fsep (beside_whole right) (sits z i (holder right steps))
+
   module _ {M : Type 1} {𝓤 : Ura M} (𝓛 : Logic 𝓤) where
     pub whole_out : (right a : ℕ) (x : R.Denot) → 1 < right → ent 𝓤 (sem 𝓛 (seat_owns R p z right a x)) (sep 𝓤 (sem 𝓛 (beside_whole right)) (sem 𝓛 (whole R p z x)))
     whole_out zero a x h = absurd (omega arith)
@@ -127,6 +138,12 @@ module _ (R : RattleType) (L : RowLaws R) (p : Ptr) (z : BlockId) where
     whole_in (suc zero) a x h = absurd (omega arith)
     whole_in (suc (suc zero)) a x h = id⊢ 𝓤 _
     whole_in (suc (suc (suc k))) a x h = id⊢ 𝓤 _
+
+    pub value_out : (right a : ℕ) (x : R.Denot) (i : ℕ) (steps : List Entry) → 1 < right → ent 𝓤 (sem 𝓛 (seat_has R p z right a x i steps)) (sep 𝓤 (sem 𝓛 (beside_value right i steps)) (sem 𝓛 (whole R p z x)))
+    value_out right a x i steps h = qed 𝓛 (‵ (seat_has R p z right a x i steps) ∷ []) ∵ fsplit ! $ use1 𝓛 (‵ (beside_whole right) ⊛ ‵ (whole R p z x)) (whole_out right a x h) $ split ! $ move ! (0 ∷ 2 ∷ []) $ fjoin ! $ done !
+
+    pub value_in : (right a : ℕ) (x : R.Denot) (i : ℕ) (steps : List Entry) → 1 < right → ent 𝓤 (sep 𝓤 (sem 𝓛 (beside_value right i steps)) (sem 𝓛 (whole R p z x))) (sem 𝓛 (seat_has R p z right a x i steps))
+    value_in right a x i steps h = qed 𝓛 (‵ (beside_value right i steps) ∷ ‵ (whole R p z x) ∷ []) ∵ fsplit ! $ move ! (0 ∷ 2 ∷ []) $ use2 𝓛 (‵ (seat_owns R p z right a x)) (whole_in right a x h) $ fjoin ! $ done !
 
     lies_placed : (c : Ptr) (x : R.Denot) → ent 𝓤 (sem 𝓛 (lies_at R full_share c x)) (fact_of 𝓤 (InBlock c))
     lies_placed (block_ptr b o) x = fact_i 𝓤 (Unit {0}) _ tt

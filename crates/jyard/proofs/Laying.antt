@@ -5,7 +5,7 @@ use lib.ListN.{length-replicate}
 use seplogic.Ra.Ura.{Ura}
 use base.Fraction.{full_share}
 use base.Stored.{Gv, gnum}
-use base.Logic.{SProp, ent, sep, ex, guard, via}
+use base.Logic.{SProp, ent, sep, ex, emp, guard, via}
 use base.Fml.{Fml, ftrue, fsep, fbor, finv}
 use types.Logic.{Logic, sem}
 use types.Kit.{‵, ◌⊛◌, some, given, learn, later, ◌$◌, ◌∵◌, !, qed, move, keep, drop, split, fsplit, fsplit3, fjoin, fjoin3, fpick, fpack, pick, show, check, use0, use1, use2, updating, await, now, rewrite, done}
@@ -18,9 +18,11 @@ use denote.Memory.{mem, part_at}
 use denote.RawPtr.{Ptr, block_ptr, block_of, count_of, InBlock, lies_at}
 use denote.Steps.{nothing}
 use Rattle.core.proofs.tally.Steps.{word_out, word_in}
-use Rattle.atomic_table.specs.Seated.{word, strip, halved}
+use types.Keyed.{entries_new}
+use Rattle.atomic_table.specs.Seated.{word, strip, halved, unused, roster}
+use Rattle.jyard.specs.Logs.{Entry, Sitter, no_sitter, sitter_coded, IsLog, word_after}
 use Rattle.jyard.specs.Counts.{IsFree}
-use Rattle.jyard.specs.Units.{BlockId, age, place, mark, Phase, free, emptying, alone, shared, state, State, inner, Placed, Spans, block_owns, blocks_own, table_owns}
+use Rattle.jyard.specs.Units.{BlockId, age, place, mark, Phase, free, emptying, alone, shared, state, State, holds_log, history, inner, Placed, Spans, block_owns, blocks_own, table_owns}
 
 module _ {M : Type 1} {𝓤 : Ura M} (𝓛 : Logic 𝓤) (R : RattleType) (w p : Ptr) (x : R.Denot) where
   open 𝓛 use {H, A}
@@ -58,16 +60,24 @@ module _ {M : Type 1} {𝓤 : Ura M} (𝓛 : Logic 𝓤) (R : RattleType) (w p :
   abbrev Within : ℕ → Type 0
   Within k = InBlock w × InBlock p × (k * 8 < 2 ^ 63) × (k * s < 2 ^ 63)
 
+  rosters : emp 𝓤 ⊢ H.⇛ (ex 𝓤 (λ (η : ℕ). ⟦ roster sitter_coded.code η 0 [] ⟧))
+  rosters = qed 𝓛 [] ∵ updating ! $ use0 𝓛 (later (some (λ (η : ℕ). ‵ (unused sitter_coded.code η 0 no_sitter)))) (via 𝓤 _ (entries_new halved 𝓛 0 (λ _. (full_share, sitter_coded.code no_sitter))) (basic 𝓛 _)) $ await ! tt $ pick ! (λ η.
+      fpack ! Sitter (unused sitter_coded.code η 0) no_sitter $ now ! $ show ! (λ (ν : ℕ). ⟦ roster sitter_coded.code ν 0 [] ⟧) η $ done !)
+
   lays_one : (k : ℕ) → Within k → ⟦ word b (word_at k) 0 ⟧ ∗ ⟦ part_at R full_share x c (cell_at k) ⟧ ⊢ H.⇛ (ex 𝓤 (λ (z : BlockId). ⟦ block_owns R p w x k z ⟧))
-  lays_one k inside = qed 𝓛 (‵ (word b (word_at k) 0) ∷ ‵ (part_at R full_share x c (cell_at k)) ∷ []) ∵ updating ! $ lft_new ! tt (λ a. let g : Gv = gnum 0 in
+  lays_one k inside = qed 𝓛 (‵ (word b (word_at k) 0) ∷ ‵ (part_at R full_share x c (cell_at k)) ∷ []) ∵ updating ! $
+      use0 𝓛 (later (some (λ (η : ℕ). ‵ (roster sitter_coded.code η 0 [])))) rosters $ await ! tt $ pick ! (λ η. let none_yet : List Entry = [] in nothing ! $ fpack ! (IsLog none_yet × (word_after none_yet ≡ 0)) (λ _. ftrue) (tt, refl) $ move ! (1 ∷ 0 ∷ []) $ fjoin ! $ move ! (1 ∷ 2 ∷ 0 ∷ []) $
+      lft_new ! tt (λ a. let g : Gv = gnum 0 in
       use0 𝓛 (later (some (λ (γ : ℕ). ‵ (mark γ full_share g)))) (via 𝓤 _ (own_new 𝓛 halved (full_share, g)) (basic 𝓛 (ex 𝓤 (λ (γ : ℕ). ⟦ mark γ full_share g ⟧)))) $ await ! tt $ pick ! (λ γ. fpack ! Gv (mark γ full_share) g $
       name_new ! tt (gnum 0) (λ ε. fjoin ! $ name_new ! tt (gnum 0) (λ δ. fjoin ! $
-      let z : BlockId = record { atom = a; parts_name = γ; alone_name = δ; emptying_name = ε; block = c; offset = cell_at k } in let J : Fml = fbor (age z) (inner R p w x k z) in
+      let z : BlockId = record { atom = a; parts_name = γ; alone_name = δ; emptying_name = ε; log_name = η; block = c; offset = cell_at k } in let J : Fml = fbor (age z) (inner R p w x k z) in
       -- [out alone; out emptying; idle; the token; the word; the value]
       fjoin ! $ move ! (0 ∷ 4 ∷ []) $ fjoin ! $ move ! (1 ∷ 0 ∷ []) $ nothing ! $ fpack ! (IsFree 0 0 0) (λ _. ftrue) (refl, refl, refl) $ fjoin3 ! $ fpack ! (Phase R.Denot) (state R (place z) z x 0) free $
-      move ! (2 ∷ 0 ∷ []) $ fjoin ! $ fpack ! ℕ (λ n. fsep (word b (word_at k) n) (State R (place z) z x n)) 0 $ bor_new ! tt (age z) $
+      -- [the case; the token; the word; the log]
+      move ! (3 ∷ 0 ∷ []) $ fpack ! (List Entry) (holds_log z 0) none_yet $ move ! (1 ∷ 0 ∷ []) $ fjoin ! $
+      move ! (2 ∷ 0 ∷ []) $ fjoin ! $ fpack ! ℕ (λ n. fsep (word b (word_at k) n) (fsep (State R (place z) z x n) (history z n))) 0 $ bor_new ! tt (age z) $
       use1 𝓛 (later (‵ (finv J))) (𝓛.invs.inv_new J) $ await ! tt $ nothing ! $ fpack ! (Placed R p w x k z) (λ _. ftrue) (inside.0, inside.1, inside.2, inside.3, refl) $ fjoin ! $ move ! (2 ∷ 0 ∷ 1 ∷ []) $ fjoin3 ! $
-      now ! $ show ! (λ (y : BlockId). ⟦ block_owns R p w x k y ⟧) z $ keep ! (0 ∷ []) $ done !))))
+      now ! $ show ! (λ (y : BlockId). ⟦ block_owns R p w x k y ⟧) z $ keep ! (0 ∷ []) $ done !)))))
 
   abbrev Laid : ℕ → ℕ → List BlockId → Pr
   Laid n k zs = guard 𝓤 (length zs ≡ n) ⟦ blocks_own R p w x k zs ⟧
@@ -113,7 +123,7 @@ module _ {M : Type 1} {𝓤 : Ura M} (𝓛 : Logic 𝓤) (R : RattleType) (w p :
   One k t = guard 𝓤 (t.1 ≡ false → t.0 ≢ 0) (⟦ word b (word_at k) t.0 ⟧ ∗ ⟦ Value k t.1 ⟧)
 
   ends_one : (k : ℕ) (z : BlockId) → ⟦ block_owns R p w x k z ⟧ ⊢ H.⇛ (ex 𝓤 (One k))
-  ends_one k z = qed 𝓛 (‵ (block_owns R p w x k z) ∷ []) ∵ updating ! $ fsplit3 ! $ lft_end ! tt $ move ! (1 ∷ []) $ fsplit ! $ fpick ! (λ at. drop ! $ drop ! $ lent_back ! tt $ fpick ! (λ n. fsplit ! $ move ! (1 ∷ []) $ fpick ! (λ ph.
+  ends_one k z = qed 𝓛 (‵ (block_owns R p w x k z) ∷ []) ∵ updating ! $ fsplit3 ! $ lft_end ! tt $ move ! (1 ∷ []) $ fsplit ! $ fpick ! (λ at. drop ! $ drop ! $ lent_back ! tt $ fpick ! (λ n. fsplit ! $ move ! (1 ∷ []) $ fsplit ! $ move ! (1 ∷ []) $ drop ! $ fpick ! (λ ph.
       use1 𝓛 (some (λ (y : Bool). given (y ≡ false → n ≢ 0) (‵ (Value k y)))) (left k z at.4 n ph) $ pick ! (λ y. learn ! (λ told.
       now ! $ show ! (One k) (n, y) $ check ! told $ move ! (1 ∷ 0 ∷ []) $ done !)))))
 

@@ -6,6 +6,10 @@ pub mod Offsets
 pub mod Turns
 pub mod Together
 pub mod Laws
+pub mod Logged
+pub mod Sums
+pub mod Refused
+pub mod Spents
 pub mod Steps
 pub mod Tally
 pub mod Strips

@@ -1,5 +1,5 @@
 -- One step on a block's word, under its invariant. Assumes `Logic`.
-use Rattle.std.proofs.Common.{◌≢◌, ◌≡◌, ◌⊎◌, inl, inr, ℕ, zero, suc, ◌+◌, ◌-◌, ◌%◌, ◌^◌, ◌<◌, ◌≤◌, eqb, Bool, [], ◌∷◌, sym, refl, subst, arith, eq-eqb, ne_eqb, w64}
+use Rattle.std.proofs.Common.{◌≢◌, ◌≡◌, ◌⊎◌, inl, inr, ℕ, zero, suc, ◌+◌, ◌-◌, ◌%◌, ◌^◌, ◌<◌, ◌≤◌, eqb, Bool, List, [], ◌∷◌, ◌++◌, sym, refl, ap, ◌∙◌, subst, arith, eq-eqb, ne_eqb, w64}
 use mathlib.Core.Logic.{dite}
 use native.Mathlib.Decide.{ℕ_discrete}
 use seplogic.Ra.Ura.{Ura}
@@ -7,11 +7,11 @@ use mir.Syntax.{ty_int}
 use mir.Val.{vint, has_ty, WT}
 use base.Fraction.{full_share}
 use base.Stored.{Gv}
-use base.Logic.{SProp, ent, sep, wand, ex, upd, upd_i}
+use base.Logic.{SProp, ent, sep, wand, ex, guard, guard_i, upd, upd_i, via, fst∗}
 use base.Fml.{Lft, Share, Incl, Fml, ftrue, fsep, fex, fbor, flent, flft}
 use prog.Atomic.{either}
 use types.Logic.{Logic, sem}
-use types.Kit.{‵, raw, ◌⊛◌, given, later, ◌$◌, ◌∵◌, !, qed, by, move, keep, drop, split, group, fsplit, fsplit3, fjoin, fjoin3, fpick, fpack, learn, show, frame, each, assume, suffices, settle, use1, use2, rewrite, updating, await, now, done}
+use types.Kit.{‵, raw, ◌⊛◌, given, later, ◌$◌, ◌∵◌, !, qed, by, move, keep, drop, split, group, fsplit, fsplit3, fjoin, fjoin3, fpick, fpack, learn, check, show, frame, each, assume, suffices, settle, use1, use2, rewrite, updating, await, now, done}
 use types.Na.{out, out_once}
 use denote.RattleType.{RattleType, RowLaws}
 use denote.RawPtr.{Ptr, block_ptr}
@@ -21,7 +21,9 @@ use Rattle.core.specs.Sync.RawAtomic.{asks, always, word}
 use Rattle.core.proofs.raw_atomic.Asked.{borrowed, Lies, Again}
 use Rattle.atomic_table.specs.Seated.{fact}
 use Rattle.jyard.specs.Counts.{kept, IsFree, IsEmptied, IsHeld}
-use Rattle.jyard.specs.Units.{spare, BlockId, age, mark, marks, idle, tokens, Phase, free, emptying, alone, shared, whole, shown, stamp, parts, both_in, state, State, Inv, seat_owns}
+use Rattle.jyard.specs.Units.{spare, BlockId, age, mark, marks, idle, tokens, Phase, free, emptying, alone, shared, whole, shown, stamp, parts, both_in, state, State, Inv, seat_owns, seat_has, history, sits, holder}
+use Rattle.jyard.specs.Logs.{Entry, entry, Sitter, sitter, taking, looking, sharing, leaving, clearing, after_take, units_taken, empties_from}
+use Rattle.jyard.proofs.Logged as log
 use Rattle.jyard.proofs.Marks as name
 use Rattle.jyard.proofs.Parts as part
 
@@ -40,6 +42,9 @@ one_or_two (suc (suc (suc k))) h = absurd (omega (arith, h.1))
 
 pub one_or_first : (r count : ℕ) → (0 < r) × (r ≤ 2) → (r ≡ 2 → count ≡ 2) → (r ≡ 1) ⊎ (r ≡ 2) × (count ≡ 2)
 one_or_first r count h f = elim (one_or_two r h) [ inl e ↦ inl e | inr e ↦ inr (e, f e) ]
+
+pub one_unit : (r : ℕ) (steps : List Entry) → (0 < r) × (r ≤ 2) → holder r steps ≡ sitter 1 0 steps
+one_unit r steps h = elim (one_or_two r h) [ inl e ↦ ap (λ (k : ℕ). holder k steps) e | inr e ↦ ap (λ (k : ℕ). holder k steps) e ]
 
 module _ {M : Type 1} {𝓤 : Ura M} (𝓛 : Logic 𝓤) (R : RattleType) (L : RowLaws R) (p : Ptr) (z : BlockId) (empty : R.Denot) (b o : ℕ) where
   open 𝓛 use {H, A}
@@ -93,15 +98,23 @@ module _ {M : Type 1} {𝓤 : Ura M} (𝓛 : Logic 𝓤) (R : RattleType) (L : R
   abbrev pub over : ℕ → R.Denot → Fml
   over a x = fsep (flent (a ∷ []) (Wh x)) (tokens a (2 ^ 63))
 
+  -- A step opens the block's invariant. What it does to the word's case, and what it adds to the log, are shown apart
   module _ (q : Share) where
-    pub opened : (f : ℕ → ℕ) (after : ℕ → Fml) (K : Fml) → ((n : ℕ) → n < 2 ^ 64 → (ph : Phase R.Denot) → ⟦ st n ph ⟧ ∗ ⟦ K ⟧ ⊢ upd 𝓤 (⟦ St (f n) ⟧ ∗ ⟦ after n ⟧))
-        → A.inv (fbor α I) ∗ (A.lft α q ∗ ⟦ K ⟧) ⊢ asks 𝓛 (block_ptr b o) f always (λ n. fsep (flft α q) (after n))
-    opened f after K law = let G : Pr = ex 𝓤 (Lies 𝓛 α q I b o f always after) in borrowed 𝓛 α q I b o f always after ⟦ K ⟧ (
-        qed 𝓛 (‵ I ∷ ‵ K ∷ []) ∵ suffices ! _ (upd_i 𝓤 G) $ fpick ! (λ n. fsplit ! $
+    pub opened : (f : ℕ → ℕ) (after told out : ℕ → Fml) (P : ℕ → Type 0) (K S : Fml)
+        → ((n : ℕ) → n < 2 ^ 64 → (ph : Phase R.Denot) → ⟦ st n ph ⟧ ∗ ⟦ K ⟧ ⊢ upd 𝓤 (⟦ St (f n) ⟧ ∗ ⟦ after n ⟧))
+        → ((n : ℕ) → ⟦ after n ⟧ ⊢ guard 𝓤 (P n) ⟦ after n ⟧)
+        → ((n : ℕ) → P n → ⟦ history z n ⟧ ∗ ⟦ S ⟧ ⊢ upd 𝓤 (⟦ history z (f n) ⟧ ∗ ⟦ told n ⟧))
+        → ((n : ℕ) → ⟦ after n ⟧ ∗ ⟦ told n ⟧ ⊢ ⟦ out n ⟧)
+        → A.inv (fbor α I) ∗ (A.lft α q ∗ ⟦ fsep K S ⟧) ⊢ asks 𝓛 (block_ptr b o) f always (λ n. fsep (flft α q) (out n))
+    opened f after told out P K S law says logs packs = let G : Pr = ex 𝓤 (Lies 𝓛 α q I b o f always out) in borrowed 𝓛 α q I b o f always out ⟦ fsep K S ⟧ (
+        qed 𝓛 (‵ I ∷ ‵ (fsep K S) ∷ []) ∵ suffices ! _ (upd_i 𝓤 G) $ fpick ! (λ n. fsplit ! $
         use1 𝓛 (given (lib.Dec.T (has_ty (ty_int w64) (vint w64 n)) × WT (vint w64 n)) (‵ (word b o n))) (𝓛.laws.at_wt full_share (ty_int w64) b o (vint w64 n)) $ learn ! (λ g.
-        show ! (Lies 𝓛 α q I b o f always after) n $ frame ! $ each ! (λ (_ : Unit {0}). Again 𝓛 α q I b o f always after n) (λ _. assume ! (‵ (word b o (f n))) $ move ! (1 ∷ []) $ fpick ! (λ ph. move ! (0 ∷ 2 ∷ []) $
-        use2 𝓛 (raw (upd 𝓤 (⟦ St (f n) ⟧ ∗ ⟦ after n ⟧))) (law n g.1.fits ph) $ settle 𝓛 (⟦ I ⟧ ∗ ⟦ after n ⟧) (‵ (St (f n)) ⊛ ‵ (after n)) $ split ! $ suffices ! _ (upd_i 𝓤 (⟦ I ⟧ ∗ ⟦ after n ⟧)) $
-        move ! (2 ∷ 0 ∷ []) $ fjoin ! $ fpack ! ℕ (λ m. fsep (word b o m) (St m)) (f n) $ done !)))))
+        show ! (Lies 𝓛 α q I b o f always out) n $ frame ! $ each ! (λ (_ : Unit {0}). Again 𝓛 α q I b o f always out n) (λ _. assume ! (‵ (word b o (f n))) $ move ! (1 ∷ []) $ fsplit ! $ fpick ! (λ ph.
+        let Z : Pr = ⟦ I ⟧ ∗ ⟦ out n ⟧ in move ! (3 ∷ []) $ fsplit ! $ move ! (2 ∷ 0 ∷ []) $
+        use2 𝓛 (raw (upd 𝓤 (⟦ St (f n) ⟧ ∗ ⟦ after n ⟧))) (law n g.1.fits ph) $ settle 𝓛 Z (‵ (St (f n)) ⊛ ‵ (after n)) $ split ! $ move ! (1 ∷ []) $
+        use1 𝓛 (given (P n) (‵ (after n))) (says n) $ learn ! (λ pn. move ! (3 ∷ 2 ∷ []) $
+        use2 𝓛 (raw (upd 𝓤 (⟦ history z (f n) ⟧ ∗ ⟦ told n ⟧))) (logs n pn) $ settle 𝓛 Z (‵ (history z (f n)) ⊛ ‵ (told n)) $ split ! $ suffices ! _ (upd_i 𝓤 Z) $
+        move ! (2 ∷ 1 ∷ []) $ use2 𝓛 (‵ (out n)) (packs n) $ move ! (2 ∷ 1 ∷ []) $ fjoin ! $ move ! (2 ∷ 0 ∷ []) $ fjoin ! $ fpack ! ℕ (λ m. fsep (word b o m) (fsep (St m) (history z m))) (f n) $ done !))))))
 
   pub lands : (n : ℕ) (ph : Phase R.Denot) (K : Fml) → ⟦ st n ph ⟧ ∗ ⟦ K ⟧ ⊢ upd 𝓤 (⟦ St n ⟧ ∗ ⟦ K ⟧)
   lands n ph K = qed 𝓛 (‵ (st n ph) ∷ ‵ K ∷ []) ∵ suffices ! _ (upd_i 𝓤 (⟦ St n ⟧ ∗ ⟦ K ⟧)) $ fpack ! (Phase R.Denot) (st n) ph $ done !
@@ -176,9 +189,32 @@ module _ {M : Type 1} {𝓤 : Ura M} (𝓛 : Logic 𝓤) (R : RattleType) (L : R
   by_exchange old new K after n ph hit miss = let F : Bool → Type 1 = λ y. ⟦ st n ph ⟧ ∗ ⟦ K ⟧ ⊢ upd 𝓤 (⟦ St (either y new n) ⟧ ∗ ⟦ after n ⟧) in dite (ℕ_discrete n old)
       (λ e. subst F (sym (eq-eqb n old e)) (hit e)) (λ ne. subst F (sym (ne_eqb n old ne)) (miss ne))
 
-  pub takes : (q : Share) → A.inv (fbor α I) ∗ (A.lft α q ∗ ⟦ ftrue ⟧) ⊢ asks 𝓛 (block_ptr b o) (λ n. either (eqb n 0) 2 n) always (λ n. fsep (flft α q) (Taken n))
-  takes q = opened q (λ n. either (eqb n 0) 2 n) Taken ftrue (λ n _ ph. by_exchange 0 2 ftrue Taken n ph
+  -- the seat of the hold, and that of the pass
+  abbrev pub took : ℕ → ℕ × ℕ → Fml
+  took n t = fsep (fact ((n ≡ 0 → t.0 ≡ 2) × (n ≢ 0 → t.0 ≡ 0))) (fsep (seat_has R p z t.0 0 empty (t.1 + 1) []) (sits z t.1 (sitter 0 0 (entry taking t.1 n (after_take n) (t.1 + 1) ∷ []))))
+
+  abbrev pub Took : ℕ → Fml
+  Took n = fex (ℕ × ℕ) (took n)
+
+  take_left : (n : ℕ) → after_take n ≡ either (eqb n 0) 2 n
+  take_left zero = refl
+  take_left (suc k) = ap (λ (y : Bool). either y 2 (suc k)) (sym (ne_eqb (suc k) 0 (λ e. omega (arith, e))))
+
+  rank_taken : (n k : ℕ) → (n ≡ 0 → k ≡ 2) × (n ≢ 0 → k ≡ 0) → sitter (units_taken n) 0 [] ≡ holder k []
+  rank_taken zero k t = ap (λ (j : ℕ). holder j []) (sym (t.0 refl))
+  rank_taken (suc n) k t = ap (λ (j : ℕ). holder j []) (sym (t.1 (λ e. omega (arith, e))))
+
+  packs_taken : (n : ℕ) → ⟦ Taken n ⟧ ∗ ⟦ log.Tried 𝓛 z n ⟧ ⊢ ⟦ Took n ⟧
+  packs_taken n = qed 𝓛 (‵ (Taken n) ∷ ‵ (log.Tried 𝓛 z n) ∷ []) ∵ fpick ! (λ k. fsplit ! $ fpick ! (λ t. drop ! $ move ! (1 ∷ []) $ fpick ! (λ i. fsplit ! $ move ! (1 ∷ []) $
+      rewrite ! 0 (λ (v : Sitter). ‵ (sits z (i + 1) v)) (rank_taken n k t) refl $ move ! (2 ∷ 0 ∷ []) $ fjoin ! $ move ! (0 ∷ 1 ∷ []) $ fjoin ! $ nothing ! $ fpack ! ((n ≡ 0 → k ≡ 2) × (n ≢ 0 → k ≡ 0)) (λ _. ftrue) t $ fjoin ! $
+      fpack ! (ℕ × ℕ) (took n) (k, i) $ done !)))
+
+  pub takes : (q : Share) → A.inv (fbor α I) ∗ (A.lft α q ∗ ⟦ fsep ftrue ftrue ⟧) ⊢ asks 𝓛 (block_ptr b o) (λ n. either (eqb n 0) 2 n) always (λ n. fsep (flft α q) (Took n))
+  takes q = opened q (λ n. either (eqb n 0) 2 n) Taken (log.Tried 𝓛 z) Took (λ _. Unit {0}) ftrue ftrue (λ n _ ph. by_exchange 0 2 ftrue Taken n ph
       (λ e. subst (λ (k : ℕ). ⟦ st k ph ⟧ ∗ ⟦ ftrue ⟧ ⊢ upd 𝓤 (⟦ St 2 ⟧ ∗ ⟦ Taken k ⟧)) (sym e) (takes_hit ph)) (λ ne. takes_miss n ne ph))
+      (λ n. guard_i 𝓤 (Unit {0}) ⟦ Taken n ⟧ tt)
+      (λ n _. subst (λ (m : ℕ). ⟦ history z n ⟧ ∗ ⟦ ftrue ⟧ ⊢ upd 𝓤 (⟦ history z m ⟧ ∗ ⟦ log.Tried 𝓛 z n ⟧)) (take_left n) (via 𝓤 _ (fst∗ 𝓤 ⟦ history z n ⟧ ⟦ ftrue ⟧) (log.takes_on 𝓛 z n)))
+      packs_taken
 
   -- ---- look
   abbrev pub rank : Won → ℕ
@@ -228,11 +264,38 @@ module _ {M : Type 1} {𝓤 : Ura M} (𝓛 : Logic 𝓤) (R : RattleType) (L : R
         (qed 𝓛 (‵ (idle γ) ∷ ‵ outE ∷ ‵ outA ∷ ‵ (Wh x) ∷ []) ∵ move ! (2 ∷ 3 ∷ []) $ fjoin ! $ use1 𝓛 (‵ (Seen 2)) (seen_in 2 home ((λ _. refl), (λ e. absurd (e refl)), omega arith, omega arith)) $
         move ! (1 ∷ 2 ∷ 0 ∷ []) $ by ! (is_alone (Seen 2)))) ph
 
-    pub looks : (right : ℕ) → (right ≡ 1) ⊎ (right ≡ 2) → (q : Share) → A.inv (fbor α I) ∗ (A.lft α q ∗ ⟦ seat_owns R p z right a x ⟧) ⊢ asks 𝓛 (block_ptr b o) (λ n. n) always (λ n. fsep (flft α q) (Seen n))
-    looks right (inl e) q = subst (λ (r : ℕ). A.inv (fbor α I) ∗ (A.lft α q ∗ ⟦ seat_owns R p z r a x ⟧) ⊢ asks 𝓛 (block_ptr b o) (λ n. n) always (λ n. fsep (flft α q) (Seen n))) (sym e)
-        (opened q (λ n. n) Seen (Ps a x 1) (λ n _ ph. looks_part n ph))
-    looks right (inr e) q = subst (λ (r : ℕ). A.inv (fbor α I) ∗ (A.lft α q ∗ ⟦ seat_owns R p z r a x ⟧) ⊢ asks 𝓛 (block_ptr b o) (λ n. n) always (λ n. fsep (flft α q) (Seen n))) (sym e)
-        (opened q (λ n. n) Seen (fsep outA (Wh x)) (λ n _ ph. looks_home n ph))
+    module _ (i : ℕ) (steps : List Entry) where
+      abbrev pub looked : ℕ → List Entry
+      looked n = steps ++ entry looking i n n 0 ∷ []
+
+      abbrev pub sight : ℕ → Won → Fml
+      sight n s = fsep (fact (Tells n s)) (fsep (spoil a x s) (sits z i (sitter 1 0 (looked n))))
+
+      abbrev pub Sight : ℕ → Fml
+      Sight n = fex Won (sight n)
+
+      told_seen : (n : ℕ) → ⟦ Seen n ⟧ ⊢ guard 𝓤 (2 ≤ n) ⟦ Seen n ⟧
+      told_seen n = qed 𝓛 (‵ (Seen n) ∷ []) ∵ fpick ! (λ s. fsplit ! $ fpick ! (λ t. drop ! $ check ! t.2 $ by ! (seen_in n s t)))
+
+      packs_seen : (n : ℕ) → ⟦ Seen n ⟧ ∗ ⟦ sits z i (sitter 1 0 (looked n)) ⟧ ⊢ ⟦ Sight n ⟧
+      packs_seen n = qed 𝓛 (‵ (Seen n) ∷ ‵ (sits z i (sitter 1 0 (looked n))) ∷ []) ∵ fpick ! (λ s. fsplit ! $ fpick ! (λ t. drop ! $ fjoin ! $ nothing ! $ fpack ! (Tells n s) (λ _. ftrue) t $ fjoin ! $ fpack ! Won (sight n) s $ done !))
+
+      has_unit : (n : ℕ) (s : Won) → Tells n s → sitter 1 0 (looked n) ≡ holder (rank s) (looked n)
+      has_unit n none t = dite (ℕ_discrete n 2) (λ e. absurd (omega (arith, t.0 e))) (λ ne. absurd (omega (arith, t.1 ne)))
+      has_unit n unit t = refl
+      has_unit n home t = refl
+      has_unit n last t = refl
+
+      -- what the seat has then
+      pub has_looked : (n : ℕ) (s : Won) → Tells n s → ⟦ fsep (spoil a x s) (sits z i (sitter 1 0 (looked n))) ⟧ ⊢ H.⇛ ⟦ seat_has R p z (rank s) a x i (looked n) ⟧
+      has_looked n s t = qed 𝓛 (‵ (fsep (spoil a x s) (sits z i (sitter 1 0 (looked n)))) ∷ []) ∵ updating ! $ fsplit ! $ use1 𝓛 (later (‵ (seat_owns R p z (rank s) a x))) (settles a x s) $ await ! tt $ now ! $
+          rewrite ! 1 (λ (v : Sitter). ‵ (sits z i v)) (has_unit n s t) refl $ done !
+
+      pub looks : (right : ℕ) → (right ≡ 1) ⊎ (right ≡ 2) → (q : Share) → A.inv (fbor α I) ∗ (A.lft α q ∗ ⟦ seat_has R p z right a x i steps ⟧) ⊢ asks 𝓛 (block_ptr b o) (λ n. n) always (λ n. fsep (flft α q) (Sight n))
+      looks right (inl e) q = subst (λ (r : ℕ). A.inv (fbor α I) ∗ (A.lft α q ∗ ⟦ seat_has R p z r a x i steps ⟧) ⊢ asks 𝓛 (block_ptr b o) (λ n. n) always (λ n. fsep (flft α q) (Sight n))) (sym e)
+          (opened q (λ n. n) Seen (λ n. sits z i (sitter 1 0 (looked n))) Sight (λ n. 2 ≤ n) (Ps a x 1) (sits z i (sitter 1 0 steps)) (λ n _ ph. looks_part n ph) told_seen (λ n some. log.looks_on 𝓛 z i n steps some) packs_seen)
+      looks right (inr e) q = subst (λ (r : ℕ). A.inv (fbor α I) ∗ (A.lft α q ∗ ⟦ seat_has R p z r a x i steps ⟧) ⊢ asks 𝓛 (block_ptr b o) (λ n. n) always (λ n. fsep (flft α q) (Sight n))) (sym e)
+          (opened q (λ n. n) Seen (λ n. sits z i (sitter 1 0 (looked n))) Sight (λ n. 2 ≤ n) (fsep outA (Wh x)) (sits z i (sitter 1 0 steps)) (λ n _ ph. looks_home n ph) told_seen (λ n some. log.looks_on 𝓛 z i n steps some) packs_seen)
 
     -- ---- leave
     abbrev pub rest_rank : Won → ℕ
@@ -286,22 +349,72 @@ module _ {M : Type 1} {𝓤 : Ura M} (𝓛 : Logic 𝓤) (R : RattleType) (L : R
         (qed 𝓛 (‵ (idle γ) ∷ ‵ outE ∷ ‵ outA ∷ ‵ (Wh x) ∷ []) ∵ move ! (1 ∷ 3 ∷ []) $ fjoin ! $ use1 𝓛 (‵ (Gone 2)) (gone_in 2 home ((λ _. refl), (λ e. absurd (e refl)), omega arith, omega arith)) $
         move ! (1 ∷ 2 ∷ 0 ∷ []) $ by ! (is_emptying (Gone 2)))) ph
 
-    pub leaves : (right : ℕ) → (right ≡ 1) ⊎ (right ≡ 2) → (q : Share) → A.inv (fbor α I) ∗ (A.lft α q ∗ ⟦ seat_owns R p z right a x ⟧) ⊢ asks 𝓛 (block_ptr b o) less always (λ n. fsep (flft α q) (Gone n))
-    leaves right (inl e) q = subst (λ (r : ℕ). A.inv (fbor α I) ∗ (A.lft α q ∗ ⟦ seat_owns R p z r a x ⟧) ⊢ asks 𝓛 (block_ptr b o) less always (λ n. fsep (flft α q) (Gone n))) (sym e)
-        (opened q less Gone (Ps a x 1) leaves_part)
-    leaves right (inr e) q = subst (λ (r : ℕ). A.inv (fbor α I) ∗ (A.lft α q ∗ ⟦ seat_owns R p z r a x ⟧) ⊢ asks 𝓛 (block_ptr b o) less always (λ n. fsep (flft α q) (Gone n))) (sym e)
-        (opened q less Gone (fsep outA (Wh x)) (λ n _ ph. leaves_home n ph))
+    module _ (i : ℕ) (steps : List Entry) where
+      abbrev pub gave : ℕ → List Entry
+      gave n = steps ++ entry leaving i n (n - 1) 0 ∷ []
+
+      abbrev pub exit : ℕ → Won → Fml
+      exit n s = fsep (fact (Parts-with n s)) (fsep (rest s) (sits z i (sitter 0 (empties_from n) (gave n))))
+
+      abbrev pub Exit : ℕ → Fml
+      Exit n = fex Won (exit n)
+
+      told_gone : (n : ℕ) → ⟦ Gone n ⟧ ⊢ guard 𝓤 ((2 ≤ n) × (n ≤ 4294967295)) ⟦ Gone n ⟧
+      told_gone n = qed 𝓛 (‵ (Gone n) ∷ []) ∵ fpick ! (λ s. fsplit ! $ fpick ! (λ t. drop ! $ check ! (t.2, t.3) $ by ! (gone_in n s t)))
+
+      packs_gone : (n : ℕ) → ⟦ Gone n ⟧ ∗ ⟦ sits z i (sitter 0 (empties_from n) (gave n)) ⟧ ⊢ ⟦ Exit n ⟧
+      packs_gone n = qed 𝓛 (‵ (Gone n) ∷ ‵ (sits z i (sitter 0 (empties_from n) (gave n))) ∷ []) ∵ fpick ! (λ s. fsplit ! $ fpick ! (λ t. drop ! $ fjoin ! $ nothing ! $ fpack ! (Parts-with n s) (λ _. ftrue) t $ fjoin ! $ fpack ! Won (exit n) s $ done !))
+
+      not_two : (n : ℕ) → n ≢ 2 → empties_from n ≡ 0
+      not_two zero ne = refl
+      not_two (suc zero) ne = refl
+      not_two (suc (suc zero)) ne = absurd (ne refl)
+      not_two (suc (suc (suc k))) ne = refl
+
+      has_none : (n : ℕ) (s : Won) → Parts-with n s → sitter 0 (empties_from n) (gave n) ≡ holder (rest_rank s) (gave n)
+      has_none n s t = dite (ℕ_discrete n 2)
+          (λ e. (λ j. sitter 0 (empties_from (e j)) (gave n)) ∙ ap (λ (r : ℕ). holder r (gave n)) (sym (t.0 e)))
+          (λ ne. (λ j. sitter 0 (not_two n ne j) (gave n)) ∙ ap (λ (r : ℕ). holder r (gave n)) (sym (t.1 ne)))
+
+      -- what the seat has then
+      pub has_left : (n : ℕ) (s : Won) → Parts-with n s → ⟦ fsep (rest s) (sits z i (sitter 0 (empties_from n) (gave n))) ⟧ ⊢ H.⇛ ⟦ seat_has R p z (rest_rank s) a x i (gave n) ⟧
+      has_left n s t = qed 𝓛 (‵ (fsep (rest s) (sits z i (sitter 0 (empties_from n) (gave n)))) ∷ []) ∵ updating ! $ fsplit ! $ use1 𝓛 (later (‵ (seat_owns R p z (rest_rank s) a x))) (rests s) $ await ! tt $ now ! $
+          rewrite ! 1 (λ (v : Sitter). ‵ (sits z i v)) (has_none n s t) refl $ done !
+
+      one_less : (n : ℕ) → (2 ≤ n) × (n ≤ 4294967295) → n - 1 ≡ less n
+      one_less n h = let h₀ = h.0 in let h₁ = h.1 in omega arith
+
+      logs_left : (n : ℕ) → (2 ≤ n) × (n ≤ 4294967295) → ⟦ history z n ⟧ ∗ ⟦ sits z i (sitter 1 0 steps) ⟧ ⊢ upd 𝓤 (⟦ history z (less n) ⟧ ∗ ⟦ sits z i (sitter 0 (empties_from n) (gave n)) ⟧)
+      logs_left n h = let h₀ = h.0 in subst (λ (m : ℕ). ⟦ history z n ⟧ ∗ ⟦ sits z i (sitter 1 0 steps) ⟧ ⊢ upd 𝓤 (⟦ history z m ⟧ ∗ ⟦ sits z i (sitter 0 (empties_from n) (gave n)) ⟧)) (one_less n h)
+          (log.leaves_on 𝓛 z i n (n - 1) steps h.0 (omega arith))
+
+      pub leaves : (right : ℕ) → (right ≡ 1) ⊎ (right ≡ 2) → (q : Share) → A.inv (fbor α I) ∗ (A.lft α q ∗ ⟦ seat_has R p z right a x i steps ⟧) ⊢ asks 𝓛 (block_ptr b o) less always (λ n. fsep (flft α q) (Exit n))
+      leaves right (inl e) q = subst (λ (r : ℕ). A.inv (fbor α I) ∗ (A.lft α q ∗ ⟦ seat_has R p z r a x i steps ⟧) ⊢ asks 𝓛 (block_ptr b o) less always (λ n. fsep (flft α q) (Exit n))) (sym e)
+          (opened q less Gone (λ n. sits z i (sitter 0 (empties_from n) (gave n))) Exit (λ n. (2 ≤ n) × (n ≤ 4294967295)) (Ps a x 1) (sits z i (sitter 1 0 steps)) leaves_part told_gone logs_left packs_gone)
+      leaves right (inr e) q = subst (λ (r : ℕ). A.inv (fbor α I) ∗ (A.lft α q ∗ ⟦ seat_has R p z r a x i steps ⟧) ⊢ asks 𝓛 (block_ptr b o) less always (λ n. fsep (flft α q) (Exit n))) (sym e)
+          (opened q less Gone (λ n. sits z i (sitter 0 (empties_from n) (gave n))) Exit (λ n. (2 ≤ n) × (n ≤ 4294967295)) (fsep outA (Wh x)) (sits z i (sitter 1 0 steps)) (λ n _ ph. leaves_home n ph) told_gone logs_left packs_gone)
 
   -- ---- free
-  frees_at : (n : ℕ) (ph : Phase R.Denot) → ⟦ st n ph ⟧ ∗ ⟦ fsep outE (Wh empty) ⟧ ⊢ upd 𝓤 (⟦ St 0 ⟧ ∗ ⟦ ftrue ⟧)
-  frees_at n free = qed 𝓛 (‵ (st n free) ∷ ‵ (fsep outE (Wh empty)) ∷ []) ∵ fsplit3 ! $ move ! (2 ∷ []) $ fsplit ! $ fsplit ! $ move ! (5 ∷ []) $ fsplit ! $ keep ! (0 ∷ 3 ∷ []) $ by ! (out_once 𝓛 z.emptying_name (⟦ St 0 ⟧ ∗ ⟦ ftrue ⟧))
-  frees_at n alone = qed 𝓛 (‵ (st n alone) ∷ ‵ (fsep outE (Wh empty)) ∷ []) ∵ fsplit3 ! $ move ! (3 ∷ []) $ fsplit ! $ keep ! (0 ∷ 4 ∷ []) $ by ! (out_once 𝓛 z.emptying_name (⟦ St 0 ⟧ ∗ ⟦ ftrue ⟧))
-  frees_at n (shared u c y) = qed 𝓛 (‵ (st n (shared u c y)) ∷ ‵ (fsep outE (Wh empty)) ∷ []) ∵ fsplit3 ! $ move ! (2 ∷ []) $ fsplit ! $ fsplit ! $ move ! (5 ∷ []) $ fsplit ! $ keep ! (0 ∷ 3 ∷ []) $ by ! (out_once 𝓛 z.emptying_name (⟦ St 0 ⟧ ∗ ⟦ ftrue ⟧))
-  frees_at n emptying = qed 𝓛 (‵ (st n emptying) ∷ ‵ (fsep outE (Wh empty)) ∷ []) ∵ fsplit3 ! $ drop ! $ move ! (2 ∷ []) $ fsplit ! $ move ! (3 ∷ 0 ∷ []) $ fjoin ! $ move ! (0 ∷ 1 ∷ []) $ fjoin ! $ move ! (1 ∷ 0 ∷ []) $
-      nothing ! $ fpack ! (IsFree 0 0 0) (λ _. ftrue) (refl, refl, refl) $ fjoin3 ! $ nothing ! $ move ! (1 ∷ 0 ∷ []) $ by ! (lands 0 free ftrue)
+  frees_at : (n : ℕ) (ph : Phase R.Denot) → ⟦ st n ph ⟧ ∗ ⟦ fsep outE (Wh empty) ⟧ ⊢ upd 𝓤 (⟦ St 0 ⟧ ∗ ⟦ fact (n ≡ 1) ⟧)
+  frees_at n free = qed 𝓛 (‵ (st n free) ∷ ‵ (fsep outE (Wh empty)) ∷ []) ∵ fsplit3 ! $ move ! (2 ∷ []) $ fsplit ! $ fsplit ! $ move ! (5 ∷ []) $ fsplit ! $ keep ! (0 ∷ 3 ∷ []) $ by ! (out_once 𝓛 z.emptying_name (⟦ St 0 ⟧ ∗ ⟦ fact (n ≡ 1) ⟧))
+  frees_at n alone = qed 𝓛 (‵ (st n alone) ∷ ‵ (fsep outE (Wh empty)) ∷ []) ∵ fsplit3 ! $ move ! (3 ∷ []) $ fsplit ! $ keep ! (0 ∷ 4 ∷ []) $ by ! (out_once 𝓛 z.emptying_name (⟦ St 0 ⟧ ∗ ⟦ fact (n ≡ 1) ⟧))
+  frees_at n (shared u c y) = qed 𝓛 (‵ (st n (shared u c y)) ∷ ‵ (fsep outE (Wh empty)) ∷ []) ∵ fsplit3 ! $ move ! (2 ∷ []) $ fsplit ! $ fsplit ! $ move ! (5 ∷ []) $ fsplit ! $ keep ! (0 ∷ 3 ∷ []) $ by ! (out_once 𝓛 z.emptying_name (⟦ St 0 ⟧ ∗ ⟦ fact (n ≡ 1) ⟧))
+  frees_at n emptying = qed 𝓛 (‵ (st n emptying) ∷ ‵ (fsep outE (Wh empty)) ∷ []) ∵ fsplit3 ! $ fpick ! (λ h. drop ! $ move ! (2 ∷ []) $ fsplit ! $ move ! (3 ∷ 0 ∷ []) $ fjoin ! $ move ! (0 ∷ 1 ∷ []) $ fjoin ! $ move ! (1 ∷ 0 ∷ []) $
+      nothing ! $ fpack ! (IsFree 0 0 0) (λ _. ftrue) (refl, refl, refl) $ fjoin3 ! $ nothing ! $ fpack ! (n ≡ 1) (λ _. ftrue) h.0 $ move ! (1 ∷ 0 ∷ []) $ by ! (lands 0 free (fact (n ≡ 1))))
 
-  pub frees : (q : Share) → A.inv (fbor α I) ∗ (A.lft α q ∗ ⟦ fsep outE (Wh empty) ⟧) ⊢ asks 𝓛 (block_ptr b o) (λ _. 0) always (λ n. fsep (flft α q) ftrue)
-  frees q = opened q (λ _. 0) (λ _. ftrue) (fsep outE (Wh empty)) (λ n _ ph. frees_at n ph)
+  module _ (i : ℕ) (steps : List Entry) where
+    abbrev pub cleared : List Entry
+    cleared = steps ++ entry clearing i 1 0 0 ∷ []
+
+    logs_clear : (n : ℕ) → n ≡ 1 → ⟦ history z n ⟧ ∗ ⟦ sits z i (sitter 0 1 steps) ⟧ ⊢ upd 𝓤 (⟦ history z 0 ⟧ ∗ ⟦ sits z i (sitter 0 0 cleared) ⟧)
+    logs_clear n e = subst (λ (k : ℕ). ⟦ history z k ⟧ ∗ ⟦ sits z i (sitter 0 1 steps) ⟧ ⊢ upd 𝓤 (⟦ history z 0 ⟧ ∗ ⟦ sits z i (sitter 0 0 cleared) ⟧)) (sym e) (log.clears_on 𝓛 z i 1 steps refl)
+
+    told_one : (n : ℕ) → ⟦ fact (n ≡ 1) ⟧ ⊢ guard 𝓤 (n ≡ 1) ⟦ fact (n ≡ 1) ⟧
+    told_one n = qed 𝓛 (‵ (fact (n ≡ 1)) ∷ []) ∵ fpick ! (λ e. check ! e $ fpack ! (n ≡ 1) (λ _. ftrue) e $ done !)
+
+    pub frees : (a : ℕ) (q : Share) → A.inv (fbor α I) ∗ (A.lft α q ∗ ⟦ seat_has R p z 3 a empty i steps ⟧) ⊢ asks 𝓛 (block_ptr b o) (λ _. 0) always (λ n. fsep (flft α q) (seat_has R p z 0 a empty i cleared))
+    frees a q = opened q (λ _. 0) (λ n. fact (n ≡ 1)) (λ _. sits z i (sitter 0 0 cleared)) (λ _. seat_has R p z 0 a empty i cleared) (λ n. n ≡ 1) (fsep outE (Wh empty)) (sits z i (sitter 0 1 steps)) (λ n _ ph. frees_at n ph)
+        told_one logs_clear (λ n. qed 𝓛 (‵ (fact (n ≡ 1)) ∷ ‵ (sits z i (sitter 0 0 cleared)) ∷ []) ∵ drop ! $ nothing ! $ fjoin ! $ done !)
 
   -- ---- share
   -- a seat that has the value whole offers a new round
@@ -357,11 +470,49 @@ module _ {M : Type 1} {𝓤 : Ura M} (𝓛 : Logic 𝓤) (R : RattleType) (L : R
         (λ e. subst (λ (k : ℕ). ⟦ st k ph ⟧ ∗ ⟦ fsep outA Y ⟧ ⊢ upd 𝓤 (⟦ St (count + 1) ⟧ ∗ ⟦ Got k ⟧)) (sym e) (with_alone count Y (⟦ St (count + 1) ⟧ ∗ ⟦ Got count ⟧) (λ _. shares_first two) ph))
         (λ ne. with_alone n Y (⟦ St n ⟧ ∗ ⟦ Got n ⟧) (λ e. absurd (ne (omega arith))) ph)
 
-    pub shares : (right : ℕ) → (right ≡ 1) ⊎ (right ≡ 2) × (count ≡ 2) → (q : Share) → A.inv (fbor α I) ∗ (A.lft α q ∗ ⟦ offer right ⟧) ⊢ asks 𝓛 (block_ptr b o) (λ n. either (eqb n count) (count + 1) n) always (λ n. fsep (flft α q) (Got n))
-    shares right (inl e) q = subst (λ (r : ℕ). A.inv (fbor α I) ∗ (A.lft α q ∗ ⟦ offer r ⟧) ⊢ asks 𝓛 (block_ptr b o) (λ n. either (eqb n count) (count + 1) n) always (λ n. fsep (flft α q) (Got n))) (sym e)
-        (opened q (λ n. either (eqb n count) (count + 1) n) Got (Ps a x 1) (λ n _ ph. shares_part n ph))
-    shares right (inr e) q = subst (λ (r : ℕ). A.inv (fbor α I) ∗ (A.lft α q ∗ ⟦ offer r ⟧) ⊢ asks 𝓛 (block_ptr b o) (λ n. either (eqb n count) (count + 1) n) always (λ n. fsep (flft α q) (Got n))) (sym e.0)
-        (opened q (λ n. either (eqb n count) (count + 1) n) Got (fsep outA (part.fresh 𝓛 R p z L x a)) (λ n _ ph. shares_alone e.1 n ph))
+    module _ (i : ℕ) (steps : List Entry) where
+      abbrev pub left_at : ℕ → ℕ
+      left_at n = either (eqb n count) (count + 1) n
+
+      abbrev pub gives : ℕ → ℕ → List Entry
+      gives n j = steps ++ entry sharing i n (left_at n) j ∷ []
+
+      abbrev pub Given : ℕ → ℕ → Type 0
+      Given n k = (n ≡ count → k ≡ 1) × (n ≢ count → k ≡ 0) × (2 ≤ n) × (n ≤ 4294967295)
+
+      -- the seat of the hold that shares, and that of the new one
+      abbrev pub pair_of : ℕ → ℕ × ℕ → Fml
+      pair_of n t = fsep (fact (Given n t.0)) (fsep (seat_has R p z 1 a x i (gives n t.1)) (seat_has R p z t.0 a x t.1 []))
+
+      abbrev pub Pair : ℕ → Fml
+      Pair n = fex (ℕ × ℕ) (pair_of n)
+
+      told_got : (n : ℕ) → ⟦ Got n ⟧ ⊢ guard 𝓤 ((2 ≤ n) × (n ≤ 4294967295)) ⟦ Got n ⟧
+      told_got n = qed 𝓛 (‵ (Got n) ∷ []) ∵ fsplit ! $ move ! (1 ∷ []) $ fpick ! (λ k. fsplit ! $ fpick ! (λ t. check ! (t.2, t.3) $ fpack ! (Given n k) (λ _. ftrue) t $ fjoin ! $ fpack ! ℕ (got n) k $ move ! (1 ∷ 0 ∷ []) $ done !))
+
+      how_left : (n : ℕ) → (left_at n ≡ n) ⊎ (n < 4294967295) × (left_at n ≡ n + 1)
+      how_left n = dite (ℕ_discrete n count)
+          (λ e. let below = asked.1 in inr (omega (arith, e), ap (λ (y : Bool). either y (count + 1) n) (eq-eqb n count e) ∙ ap (λ (k : ℕ). k + 1) (sym e)))
+          (λ ne. inl (ap (λ (y : Bool). either y (count + 1) n) (ne_eqb n count ne)))
+
+      rank_got : (n k : ℕ) → Given n k → sitter (left_at n - n) 0 [] ≡ holder k []
+      rank_got n k t = dite (ℕ_discrete n count)
+          (λ e. let one : left_at n - n ≡ 1 = (let hit = ap (λ (y : Bool). either y (count + 1) n) (eq-eqb n count e) in omega (arith, hit, e)) in
+          ap (λ (u : ℕ). sitter u 0 []) one ∙ ap (λ (j : ℕ). holder j []) (sym (t.0 e)))
+          (λ ne. let none_ : left_at n - n ≡ 0 = (let miss = ap (λ (y : Bool). either y (count + 1) n) (ne_eqb n count ne) in omega (arith, miss)) in
+          ap (λ (u : ℕ). sitter u 0 []) none_ ∙ ap (λ (j : ℕ). holder j []) (sym (t.1 ne)))
+
+      packs_got : (n : ℕ) → ⟦ Got n ⟧ ∗ ⟦ log.Shared 𝓛 z i n (left_at n) steps ⟧ ⊢ ⟦ Pair n ⟧
+      packs_got n = qed 𝓛 (‵ (Got n) ∷ ‵ (log.Shared 𝓛 z i n (left_at n) steps) ∷ []) ∵ fsplit ! $ move ! (1 ∷ []) $ fpick ! (λ k. fsplit ! $ fpick ! (λ t. drop ! $ move ! (2 ∷ []) $ fpick ! (λ j. fsplit ! $ move ! (1 ∷ []) $
+          rewrite ! 0 (λ (v : Sitter). ‵ (sits z j v)) (rank_got n k t) refl $
+          -- [the new seat; the old seat; what the new one has; the part]
+          move ! (2 ∷ 0 ∷ []) $ fjoin ! $ move ! (2 ∷ 1 ∷ []) $ fjoin ! $ move ! (0 ∷ 1 ∷ []) $ fjoin ! $ nothing ! $ fpack ! (Given n k) (λ _. ftrue) t $ fjoin ! $ fpack ! (ℕ × ℕ) (pair_of n) (k, j) $ done !)))
+
+      pub shares : (right : ℕ) → (right ≡ 1) ⊎ (right ≡ 2) × (count ≡ 2) → (q : Share) → A.inv (fbor α I) ∗ (A.lft α q ∗ ⟦ fsep (offer right) (sits z i (sitter 1 0 steps)) ⟧) ⊢ asks 𝓛 (block_ptr b o) left_at always (λ n. fsep (flft α q) (Pair n))
+      shares right (inl e) q = subst (λ (r : ℕ). A.inv (fbor α I) ∗ (A.lft α q ∗ ⟦ fsep (offer r) (sits z i (sitter 1 0 steps)) ⟧) ⊢ asks 𝓛 (block_ptr b o) left_at always (λ n. fsep (flft α q) (Pair n))) (sym e)
+          (opened q left_at Got (λ n. log.Shared 𝓛 z i n (left_at n) steps) Pair (λ n. (2 ≤ n) × (n ≤ 4294967295)) (Ps a x 1) (sits z i (sitter 1 0 steps)) (λ n _ ph. shares_part n ph) told_got (λ n h. log.shares_on 𝓛 z i n (left_at n) steps h.0 (how_left n)) packs_got)
+      shares right (inr e) q = subst (λ (r : ℕ). A.inv (fbor α I) ∗ (A.lft α q ∗ ⟦ fsep (offer r) (sits z i (sitter 1 0 steps)) ⟧) ⊢ asks 𝓛 (block_ptr b o) left_at always (λ n. fsep (flft α q) (Pair n))) (sym e.0)
+          (opened q left_at Got (λ n. log.Shared 𝓛 z i n (left_at n) steps) Pair (λ n. (2 ≤ n) × (n ≤ 4294967295)) (fsep outA (part.fresh 𝓛 R p z L x a)) (sits z i (sitter 1 0 steps)) (λ n _ ph. shares_alone e.1 n ph) told_got (λ n h. log.shares_on 𝓛 z i n (left_at n) steps h.0 (how_left n)) packs_got)
 
   pub offered : (count : ℕ) (x : R.Denot) (m : ℕ) (l μ : Lft) (s : Share) → Lends 𝓛 (Wh x) (shown R p z x) l → Incl μ l → (right : ℕ) → (right ≡ 1) ⊎ (right ≡ 2) × (count ≡ 2)
       → ⟦ seat_owns R p z right m x ⟧ ∗ A.lft μ s ⊢ H.⇛ (⟦ fex ℕ (λ k. offer_of x k right) ⟧ ∗ A.lft μ s)

@@ -1,22 +1,27 @@
 -- The units of seats that are brought together are no more than the block's count. Assumes `Logic`.
-use Rattle.std.proofs.Common.{◌≡◌, ℕ, zero, suc, ◌+◌, ◌^◌, ◌<◌, ◌≤◌, List, [], ◌∷◌, lt_of_not-le, sym, refl, arith}
+use Rattle.std.proofs.Common.{◌≡◌, ℕ, zero, suc, ◌+◌, ◌^◌, ◌<◌, ◌≤◌, List, [], ◌∷◌, ◌++◌, set, lt_of_not-le, sym, refl, arith}
+use lib.ListN.{get_elem?}
 use mathlib.Core.Logic.{dite}
 use native.Mathlib.Decide.{ℕ_discrete, dec_le}
 use seplogic.Ra.Ura.{Ura}
 use base.Fraction.{full_share}
 use base.Stored.{Gv}
-use base.Logic.{SProp, ent, sep, upd}
-use base.Fml.{Share, Fml, ftrue, fsep, fbor, flft}
+use base.Logic.{SProp, ent, sep, all, all_e, guard, upd, upd_i, guard_i, via}
+use base.Fml.{Share, Fml, ftrue, fsep, fbor, flft, finv}
 use types.Logic.{Logic, sem}
-use types.Kit.{‵, ◌⊛◌, given, ◌$◌, ◌∵◌, !, qed, by, move, keep, split, fsplit, fsplit3, fjoin, fpick, fpack, learn, use1, use2, rewrite}
+use types.Kit.{‵, raw, ◌⊛◌, given, ◌$◌, ◌∵◌, !, qed, by, move, keep, drop, done, split, fsplit, fsplit3, fjoin, fpick, fpack, learn, check, frame, suffices, settle, use1, use2, rewrite}
 use types.Na.{out, out_once}
 use denote.RattleType.{RattleType, RowLaws}
 use denote.RawPtr.{Ptr, block_ptr}
 use denote.Steps.{nothing}
 use Rattle.core.specs.Sync.RawAtomic.{asks, always}
-use Rattle.atomic_table.specs.Seated.{fact}
+use Rattle.atomic_table.specs.Seated.{fact, roster}
+use Rattle.atomic_table.proofs.Lists.{at_longer, set_again}
+use Rattle.atomic_table.proofs.Roster.{Moved, moves}
+use Rattle.jyard.specs.Logs.{Entry, Sitter, sitter_coded, IsLog, word_after, seats_after}
 use Rattle.jyard.specs.Counts.{kept, units_of, block_count}
-use Rattle.jyard.specs.Units.{BlockId, age, place, spare, mark, idle, Phase, free, emptying, alone, shared, stamp, parts, state, State, Inv, seat_owns, SeatOf, seats_own, units_in, AllHere}
+use Rattle.jyard.specs.Units.{BlockId, age, place, spare, mark, idle, Phase, free, emptying, alone, shared, stamp, parts, state, State, Inv, seat_owns, holds_log, history, sits, holder, StandIn, IsLogWith, SeatOf, seats_own, units_in, AllHere}
+use Rattle.jyard.proofs.Logged as log
 use Rattle.jyard.proofs.Marks as name
 use Rattle.jyard.proofs.Parts as part
 use Rattle.jyard.proofs.Steps as steps
@@ -54,7 +59,60 @@ module _ {M : Type 1} {𝓤 : Ura M} (𝓛 : Logic 𝓤) (R : RattleType) (L : R
   Seats = List (SeatOf R.Denot)
 
   abbrev own : Seats → Fml
-  own ss = seats_own R ss
+  own [] = ftrue
+  own (s ∷ ss) = fsep (seat_owns R (place s.id) s.id s.right s.round s.value) (own ss)
+
+  abbrev sitting : Seats → Fml
+  sitting [] = ftrue
+  sitting (s ∷ ss) = fsep (sits s.id s.seat (holder s.right s.steps)) (sitting ss)
+
+  -- their rights, and their places among the block's seats
+  apart : (ss : Seats) → ⟦ seats_own R ss ⟧ ⊢ ⟦ fsep (own ss) (sitting ss) ⟧
+  apart [] = qed 𝓛 (‵ ftrue ∷ []) ∵ nothing ! $ fjoin ! $ done !
+  apart (s ∷ ss) = let O : Fml = seat_owns R (place s.id) s.id s.right s.round s.value in let S : Fml = sits s.id s.seat (holder s.right s.steps) in
+      qed 𝓛 (‵ (fsep (fsep O S) (seats_own R ss)) ∷ []) ∵ fsplit ! $ move ! (1 ∷ []) $ use1 𝓛 (‵ (fsep (own ss) (sitting ss))) (apart ss) $ fsplit ! $ move ! (2 ∷ []) $ fsplit ! $
+      -- [the right; the place; the other rights; the other places]
+      move ! (0 ∷ 2 ∷ []) $ fjoin ! $ move ! (1 ∷ 2 ∷ []) $ fjoin ! $ move ! (1 ∷ 0 ∷ []) $ fjoin ! $ done !
+
+  again : (ss : Seats) → ⟦ own ss ⟧ ∗ ⟦ sitting ss ⟧ ⊢ ⟦ seats_own R ss ⟧
+  again [] = qed 𝓛 (‵ ftrue ∷ ‵ ftrue ∷ []) ∵ drop ! $ done !
+  again (s ∷ ss) = let O : Fml = seat_owns R (place s.id) s.id s.right s.round s.value in let S : Fml = sits s.id s.seat (holder s.right s.steps) in
+      qed 𝓛 (‵ (fsep O (own ss)) ∷ ‵ (fsep S (sitting ss)) ∷ []) ∵ fsplit ! $ move ! (2 ∷ []) $ fsplit ! $
+      -- [the place; the other places; the right; the other rights]
+      move ! (3 ∷ 1 ∷ []) $ use2 𝓛 (‵ (seats_own R ss)) (again ss) $ move ! (2 ∷ 1 ∷ []) $ fjoin ! $ move ! (0 ∷ 1 ∷ []) $ fjoin ! $ done !
+
+  abbrev Ro : List Sitter → Fml
+  Ro vs = roster sitter_coded.code z.log_name 0 vs
+
+  abbrev Standing : Seats → List Sitter → Pr
+  Standing ss vs = guard 𝓤 (StandIn ss vs) (⟦ Ro vs ⟧ ∗ ⟦ sitting ss ⟧)
+
+  -- each of them stands in the roster
+  stand : (ss : Seats) (vs : List Sitter) → AllHere z ss → ⟦ Ro vs ⟧ ∗ ⟦ sitting ss ⟧ ⊢ upd 𝓤 (Standing ss vs)
+  stand [] vs h = qed 𝓛 (‵ (Ro vs) ∷ ‵ ftrue ∷ []) ∵ suffices ! _ (upd_i 𝓤 (Standing [] vs)) $ check ! tt $ done !
+  stand (s ∷ ss) vs h = let i : ℕ = s.seat in let v : Sitter = holder s.right s.steps in let Z : Pr = Standing (s ∷ ss) vs in
+      qed 𝓛 (‵ (Ro vs) ∷ ‵ (fsep (sits s.id i v) (sitting ss)) ∷ []) ∵ move ! (1 ∷ []) $ fsplit ! $ rewrite ! 0 (λ (u : BlockId). ‵ (sits u i v)) h.0 refl $ move ! (2 ∷ 0 ∷ []) $
+      use2 𝓛 (given (get_elem? vs i ≡ mathlib.Core.Option.some v) (raw (all 𝓤 (Moved 𝓛 sitter_coded z.log_name 0 vs i i)))) (moves 𝓛 sitter_coded z.log_name vs 0 i i v (omega arith)) $ learn ! (λ there.
+      use1 𝓛 (raw (Moved 𝓛 sitter_coded z.log_name 0 vs i i v)) (all_e 𝓤 (Moved 𝓛 sitter_coded z.log_name 0 vs i i) v) $ settle 𝓛 Z (‵ (Ro (set vs i v)) ⊛ ‵ (sits z i v)) $ split ! $
+      rewrite ! 0 (λ (l : List Sitter). ‵ (Ro l)) (set_again vs i v there) refl $ move ! (0 ∷ 2 ∷ []) $
+      use2 𝓛 (raw (upd 𝓤 (Standing ss vs))) (stand ss vs h.1) $ settle 𝓛 Z (given (StandIn ss vs) (‵ (Ro vs) ⊛ ‵ (sitting ss))) $ learn ! (λ rest. split ! $ suffices ! _ (upd_i 𝓤 Z) $ check ! (there, rest) $
+      rewrite ! 2 (λ (u : BlockId). ‵ (sits u i v)) (sym h.0) refl $ move ! (0 ∷ 2 ∷ 1 ∷ []) $ frame ! $ fjoin ! $ done !))
+
+  longer : (ss : Seats) (vs : List Sitter) (u : Sitter) → StandIn ss vs → StandIn ss (vs ++ u ∷ [])
+  longer [] vs u h = tt
+  longer (s ∷ ss) vs u h = (at_longer vs (u ∷ []) s.seat (holder s.right s.steps) h.0, longer ss vs u h.1)
+
+  abbrev pub Summed : Seats → ℕ → Fml
+  Summed ss n = fsep (fact ((l : List Entry) × IsLogWith ss n l)) (fsep (sitting ss) (log.Counted 𝓛 z n))
+
+  -- the count of a pass, beside seats of the block
+  counts_beside : (ss : Seats) (n : ℕ) → AllHere z ss → ⟦ history z n ⟧ ∗ ⟦ sitting ss ⟧ ⊢ upd 𝓤 (⟦ history z n ⟧ ∗ ⟦ Summed ss n ⟧)
+  counts_beside ss n here = let Z : Pr = ⟦ history z n ⟧ ∗ ⟦ Summed ss n ⟧ in
+      qed 𝓛 (‵ (history z n) ∷ ‵ (sitting ss) ∷ []) ∵ fpick ! (λ l. fsplit ! $ move ! (1 ∷ []) $ fpick ! (λ ok. drop ! $ let vs : List Sitter = seats_after l in
+      use2 𝓛 (raw (upd 𝓤 (Standing ss vs))) (stand ss vs here) $ settle 𝓛 Z (given (StandIn ss vs) (‵ (Ro vs) ⊛ ‵ (sitting ss))) $ learn ! (λ there. split ! $
+      nothing ! $ fpack ! (IsLog l × (word_after l ≡ n)) (λ _. ftrue) ok $ move ! (1 ∷ 0 ∷ []) $ fjoin ! $ fpack ! (List Entry) (holds_log z n) l $
+      use1 𝓛 (raw (upd 𝓤 (⟦ history z n ⟧ ∗ ⟦ log.Counted 𝓛 z n ⟧))) (log.counts_on 𝓛 z n) $ settle 𝓛 Z (‵ (history z n) ⊛ ‵ (log.Counted 𝓛 z n)) $ split ! $ suffices ! _ (upd_i 𝓤 Z) $
+      move ! (2 ∷ 1 ∷ []) $ fjoin ! $ nothing ! $ fpack ! ((m : List Entry) × IsLogWith ss n m) (λ _. ftrue) (l, (ok.0, ok.1, there)) $ fjoin ! $ move ! (1 ∷ 0 ∷ []) $ done !)))
 
   abbrev has : ℕ → ℕ → R.Denot → Fml
   has r a x = seat_owns R p z r a x
@@ -133,5 +191,16 @@ module _ {M : Type 1} {𝓤 : Ura M} (𝓛 : Logic 𝓤) (R : RattleType) (L : R
           (λ low. qed 𝓛 (‵ (st n ph) ∷ ‵ (own ss) ∷ []) ∵ move ! (1 ∷ []) $ nothing ! $ fpack ! (units_in ss ≤ block_count n) (λ _. ftrue) low $ fjoin ! $ move ! (1 ∷ 0 ∷ []) $ by ! (steps.lands 𝓛 R L p z empty b o n ph (Tallied n)))
           (λ not. counted ss (⟦ State R p z empty n ⟧ ∗ ⟦ Tallied n ⟧) here n (lt_of_not-le not) ph)
 
-      pub tallies : (q : Share) → A.inv (fbor (age z) (Inv R p z empty b o)) ∗ (A.lft (age z) q ∗ ⟦ own ss ⟧) ⊢ asks 𝓛 (block_ptr b o) (λ n. n) always (λ n. fsep (flft (age z) q) (Tallied n))
-      tallies q = steps.opened 𝓛 R L p z empty b o q (λ n. n) Tallied (own ss) (λ n _ ph. tallies_at n ph)
+      abbrev pub Told : ℕ → Fml
+      Told n = fsep (fact ((units_in ss ≤ block_count n) × ((l : List Entry) × IsLogWith ss n l))) (fsep (seats_own R ss) (log.Counted 𝓛 z n))
+
+      packs : (n : ℕ) → ⟦ Tallied n ⟧ ∗ ⟦ Summed ss n ⟧ ⊢ ⟦ Told n ⟧
+      packs n = qed 𝓛 (‵ (Tallied n) ∷ ‵ (Summed ss n) ∷ []) ∵ fsplit ! $ fpick ! (λ low. drop ! $ move ! (1 ∷ []) $ fsplit ! $ fpick ! (λ sum. drop ! $ fsplit ! $
+          -- [the places; the pass's seat; the rights]
+          move ! (2 ∷ 0 ∷ []) $ use2 𝓛 (‵ (seats_own R ss)) (again ss) $ fjoin ! $ nothing ! $ fpack ! ((units_in ss ≤ block_count n) × ((l : List Entry) × IsLogWith ss n l)) (λ _. ftrue) (low, sum) $ fjoin ! $ done !))
+
+      pub tallies : (q : Share) → A.inv (fbor (age z) (Inv R p z empty b o)) ∗ (A.lft (age z) q ∗ ⟦ seats_own R ss ⟧) ⊢ asks 𝓛 (block_ptr b o) (λ n. n) always (λ n. fsep (flft (age z) q) (Told n))
+      tallies q = let J : Fml = fbor (age z) (Inv R p z empty b o) in via 𝓤 _
+          (qed 𝓛 (‵ (finv J) ∷ ‵ (flft (age z) q) ∷ ‵ (seats_own R ss) ∷ []) ∵ move ! (2 ∷ []) $ use1 𝓛 (‵ (fsep (own ss) (sitting ss))) (apart ss) $ move ! (1 ∷ 2 ∷ 0 ∷ []) $ done !)
+          (steps.opened 𝓛 R L p z empty b o q (λ n. n) Tallied (Summed ss) Told (λ _. Unit {0}) (own ss) (sitting ss) (λ n _ ph. tallies_at n ph) (λ n. guard_i 𝓤 (Unit {0}) ⟦ Tallied n ⟧ tt)
+          (λ n _. counts_beside ss n here) packs)

@@ -32,6 +32,13 @@ units_of (suc zero) = 1
 units_of (suc (suc zero)) = 1
 units_of (suc (suc (suc k))) = 0
 
+-- whether it is emptying the block, as 1 or 0
+abbrev pub emptying_of : ℕ → ℕ
+emptying_of zero = 0
+emptying_of (suc zero) = 0
+emptying_of (suc (suc zero)) = 0
+emptying_of (suc (suc (suc k))) = 1
+
 -- Its parts of the right to the payload. With one it may read the payload; only with all may it write it, put it or take it out.
 abbrev pub parts_of : ℕ → ℕ
 parts_of zero = 0

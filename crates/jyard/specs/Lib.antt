@@ -1,5 +1,7 @@
 pub mod Counts
+pub mod Logs
 pub mod Units
+pub mod Taken
 pub mod Lent
 pub mod Yards
 pub mod Sole

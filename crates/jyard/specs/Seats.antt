@@ -3,4 +3,4 @@ use Rattle.jyard.specs.Units.{SeatOf}
 use Rattle.jyard.specs.declared.table.Seat.{Seat}
 
 abbrev pub seat_of : {S : Type 0} → Seat S → SeatOf S
-seat_of s = record { id = s.id; right = s.right; round = s.round; value = s.value; reads = s.reads }
+seat_of s = record { id = s.id; right = s.right; round = s.round; value = s.value; seat = s.seat; steps = s.steps }

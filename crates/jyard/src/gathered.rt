@@ -3,8 +3,7 @@ ghost use Rattle.std.specs.Prelude.{◌≡◌};
 
 use crate::seats::Seats;
 
-/// Holds of one block. Its only bytes are the block's number.
-#[derive(Drop)]
+/// Holds of one block. Its only bytes are the block's number. It cannot be dropped: `part` and `only` give the holds back.
 pub struct Gathered<T> {
     pub(crate) block: u32,
     pub(crate) seats: Seats<Option<T>>,

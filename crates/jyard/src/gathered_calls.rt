@@ -1,7 +1,7 @@
-// The law of counts: holds of a block that are brought together are no more than its count.
+// The law of counts: the units of all seats of a block add up to its count, so that holds brought together are no more.
 ghost use Rattle.std.specs.Prelude.{◌≡◌, ℕ, List, [], ◌∷◌, ◌+◌, ◌<◌, ◌≤◌, length};
-ghost use Rattle.jyard.specs.Gathering.{AreHoldsOf, how_many};
-ghost use Rattle.jyard.specs.Reads.{and_read};
+ghost use Rattle.jyard.specs.Gathering.{AreHoldsOf, IsSum, how_many};
+ghost use Rattle.jyard.specs.Taken.{HasCounted};
 ghost use Rattle.jyard.specs.Seats.{seat_of};
 ghost use Rattle.jyard.specs.Units.{BlockId, id_at};
 ghost use Rattle.jyard.specs.Yards.{blocks_of, IsHoldOf, IsPassOf};
@@ -49,13 +49,25 @@ impl<T> Gathered<T> {
         (Hold { block, seat }, Gathered { block, seats })
     }
 
-    /// The law of counts. It reads the block's word, and the count that this tells is no less than the number of the holds that are brought together: the units of all seats add up to it.
+    /// The one hold.
+    pub fn only(self) -> Hold<T>
+        requires { how_many self ≡ 1 }
+        ensures holds { (result.block ≡ self.block) × (self.seats.all ≡ seat_of result.seat ∷ []) }
+        ensures yard { (ids : List BlockId) → AreHoldsOf ids self → IsHoldOf ids result }
+    {
+        let Self { block, seats } = self;
+        let seat = seats.only();
+        Hold { block, seat }
+    }
+
+    /// The law of counts. It reads the block's word, and the units of all the block's seats, those brought together and others, add up to the count that this tells.
     pub fn count(self, yard: &Yard<T>, pass: &mut YardPass) -> (u64, Gathered<T>)
-        requires { (0 < how_many self) × AreHoldsOf (blocks_of yard.now) self × IsPassOf (blocks_of yard.now) pass.old }
-        ensures law { how_many self ≤ result.0 }
+        requires { (0 < how_many self) × AreHoldsOf (blocks_of yard.now) self }
+        ensures law { IsSum self result.0 }
+        ensures least { how_many self ≤ result.0 }
         ensures holds { (result.1.block ≡ self.block) × (result.1.seats.all ≡ self.seats.all) }
         ensures yard { AreHoldsOf (blocks_of yard.now) result.1 }
-        ensures pass { IsPassOf (blocks_of yard.now) pass.new × (pass.new.view.reads ≡ and_read pass.old.view.reads (id_at (blocks_of yard.now) self.block) (result.0 + 1)) }
+        ensures pass { (pass.new.view.yard ≡ pass.old.view.yard) × (pass.new.next ≡ pass.old.next) × HasCounted pass.old.view.spent pass.new.view.spent (id_at (blocks_of yard.now) self.block) (result.0 + 1) }
     {
         let Self { block, seats } = self;
         let (word, seats) = yard.table().tally(seats, block as usize, &mut pass.view);

@@ -6,8 +6,7 @@ use crate::table::Seat;
 /// The largest word that a block can have.
 pub const MOST: u64 = 4_294_967_295;
 
-/// One unit of one block. Its only bytes are the block's number.
-#[derive(Drop)]
+/// One unit of one block. Its only bytes are the block's number. It cannot be dropped: it ends by `leave`.
 pub struct Hold<T> {
     pub(crate) block: u32,
     pub(crate) seat: Seat<Option<T>>,

@@ -28,8 +28,8 @@ impl<T> Hold<T> {
     pub fn share(&mut self, yard: &Yard<T>) -> Result<Hold<T>, NoShare>
         requires { IsHoldOf (blocks_of yard.now) self.old }
         ensures hold { IsHoldOf (blocks_of yard.now) self.new × (self.new.block ≡ self.old.block) × (self.new.seat.value ≡ self.old.seat.value) }
-        ensures new { IfOk result (λ h. IsHoldOf (blocks_of yard.now) h × (h.block ≡ self.old.block) × (h.seat.value ≡ self.old.seat.value) × (h.seat.reads ≡ [])) }
-        ensures reads { SharedBy result self.old.seat.reads self.new.seat.reads self.old.seat.id }
+        ensures new { IfOk result (λ h. IsHoldOf (blocks_of yard.now) h × (h.block ≡ self.old.block) × (h.seat.value ≡ self.old.seat.value) × (h.seat.steps ≡ [])) }
+        ensures steps { (self.new.seat.seat ≡ self.old.seat.seat) × SharedBy result self.old.seat.seat self.old.seat.steps self.new.seat.steps }
     {
         let at = self.block as usize;
         let table = yard.table();
@@ -39,6 +39,7 @@ impl<T> Hold<T> {
         }
         let (found, seat) = table.share(&mut self.seat, at, word);
         if found != word {
+            seat.unused();
             return Err(NoShare::Moved {
                 expected: word,
                 found,
@@ -75,22 +76,24 @@ impl<T> Hold<T> {
         }
     }
 
-    /// Gives the unit back. The last one gives the payload out.
+    /// Gives the unit back. The last one gives the payload out. The pass, which may be of any yard, has the hold's steps from then on.
     pub fn leave(self, yard: &Yard<T>, pass: &mut YardPass) -> Option<T>
-        requires { IsHoldOf (blocks_of yard.now) self × IsPassOf (blocks_of yard.now) pass.old }
-        ensures pass { IsPassOf (blocks_of yard.now) pass.new × (pass.new.next ≡ pass.old.next) }
+        requires { IsHoldOf (blocks_of yard.now) self }
+        ensures pass { (pass.new.view.yard ≡ pass.old.view.yard) × (pass.new.next ≡ pass.old.next) }
         ensures value { IfSome result (λ v. Some v ≡ self.seat.value) }
-        ensures reads { LeftBy result (pass.old.view.reads ++ self.seat.reads) pass.new.view.reads self.seat.id }
+        ensures steps { LeftBy result self.seat.id self.seat.seat self.seat.steps pass.old.view.spent pass.new.view.spent }
     {
         let Hold { block, seat } = self;
         let at = block as usize;
         let table = yard.table();
-        let (found, mut seat) = table.leave(seat, at, &mut pass.view);
+        let (found, mut seat) = table.leave(seat, at);
         if found != 2 {
+            pass.keep(yard, seat);
             return None;
         }
         let value = mem::replace(seat.get_mut(table, at), None);
-        table.free(seat, at);
+        let seat = table.free(seat, at);
+        pass.keep(yard, seat);
         value
     }
 }

@@ -2,7 +2,7 @@
 ghost use Rattle.std.specs.Prelude.{◌≡◌, ◌<◌, ◌≤◌, length, IfOk, IfErr};
 ghost use Rattle.std.specs.Borrow.{Lends, LendsIfOk, sem};
 ghost use Rattle.jyard.specs.contracts.table.Seat.{the_row};
-ghost use Rattle.jyard.specs.Lent.{with_value, with_right, with_read, found_in};
+ghost use Rattle.jyard.specs.Lent.{with_value, with_right, with_look, found_in};
 ghost use Rattle.jyard.specs.Units.{IsHolding, id_at};
 
 use crate::table::{Seat, Table};
@@ -31,7 +31,7 @@ impl<S> Seat<S> {
     /// `look`, and where it found 2 the value to write. Otherwise the word that was found.
     pub(crate) fn sole<'a>(&'a mut self, table: &Table<S>, at: usize) -> Result<&'a mut S, u64>
         requires { (at < length table.now.ids) × IsHolding self.old.right × (self.old.id ≡ id_at table.now.ids at) }
-        ensures* writes_back { sem 𝓛 (LendsIfOk (the_row S.row) S.row self.entry result (λ w. with_read (with_right (with_value self.old w) 2) 2) (with_read (with_right self.old 1) (found_in result))) }
+        ensures* writes_back { sem 𝓛 (LendsIfOk (the_row S.row) S.row self.entry result (λ w. with_look (with_right (with_value self.old w) 2) 2) (with_look (with_right self.old 1) (found_in result))) }
         ensures value { IfOk result (λ r. r.now ≡ self.old.value) }
         ensures found { IfErr result (λ n. (2 < n) × (n ≤ 4294967295)) }
     {

@@ -1,10 +1,12 @@
 // A table of blocks with its memory.
-ghost use Rattle.std.specs.Prelude.{◌≡◌, ◌≤◌, length, IfOk, None};
+ghost use Rattle.std.specs.Prelude.{◌≡◌, ◌≢◌, ◌≤◌, length, replicate, IfOk, None};
+ghost use Rattle.core.specs.Mem.Slots.{slots_items, slots_len};
 
 use crate::ground::{Blank, Deed};
 use crate::rows::{all_free, nones, zeros};
 use crate::strip::Strip;
 use crate::table::Table;
+use core::slots::Slots;
 use jdata::NoMemory;
 use std::alloc::Global;
 use std::mem::ManuallyDrop;
@@ -70,10 +72,16 @@ impl<T> Drop for Shelf<T> {
             let words = Strip::of(words);
             deed.free(&heap, words.into_blank(), cells.into_blank());
         } else {
-            // A hold was let go without `leave`: its value is lost, and the memory that it lies in.
-            let _ = unsafe { ManuallyDrop::new_unchecked(words) };
-            let _ = unsafe { ManuallyDrop::new_unchecked(cells) };
-            let _ = unsafe { ManuallyDrop::new_unchecked(deed) };
+            leave_behind(words, cells, deed);
         }
     }
+}
+
+// Some block is taken: a hold that was never given back may still read what lies there, so the memory stays.
+fn leave_behind<T>(words: Slots<u64>, cells: Strip<Option<T>>, deed: Deed<Option<T>, Global>)
+    requires { slots_items words ≢ replicate (slots_len words) 0 }
+{
+    let _ = unsafe { ManuallyDrop::new_unchecked(words) };
+    let _ = unsafe { ManuallyDrop::new_unchecked(cells) };
+    let _ = unsafe { ManuallyDrop::new_unchecked(deed) };
 }

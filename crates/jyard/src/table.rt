@@ -1,7 +1,9 @@
 //! A table of blocks: their words, their values, and the seats.
 //! A word is 0 where its block is free, 1 where one seat is emptying it, and otherwise one more than the number of units that seats hold.
-ghost use Rattle.std.specs.Prelude.{◌≡◌, ◌≢◌, ℕ, ◌+◌, ◌<◌, ◌≤◌, List, [], ◌∷◌, ◌++◌, length, replicate};
-ghost use Rattle.jyard.specs.Units.{BlockId, block_id_coded, ids_coded, reads_coded, IsHolding, id_at, place, table_owns, table_shares, seat_owns, seat_shares};
+ghost use Rattle.std.specs.Prelude.{◌≡◌, ◌≢◌, ℕ, ◌+◌, ◌-◌, ◌<◌, ◌≤◌, List, [], ◌∷◌, ◌++◌, length, replicate};
+ghost use Rattle.jyard.specs.Logs.{Entry, entry, after_share, looking, sharing, leaving, clearing, steps_coded};
+ghost use Rattle.jyard.specs.Taken.{HasTaken};
+ghost use Rattle.jyard.specs.Units.{BlockId, block_id_coded, ids_coded, IsHolding, id_at, place, table_owns, table_shares, seat_has, seat_shows};
 
 use crate::strip::Strip;
 use crate::view::View;
@@ -24,21 +26,30 @@ impl<S> Model for Table<S> {
     ghost also_shares = { λ t _ κ. table_shares S.row t.cells t.words t.empty t.ids κ };
 }
 
-/// What one owner of a unit knows. It has no bytes. Its `right` is 0 for nothing, 1 for a part of the value, 2 for the value whole at word 2, and 3 for the value whole while the block is being emptied.
-#[derive(Drop)]
+/// What one owner of a unit knows. It has no bytes, and cannot be dropped. Its `right` is 0 for nothing, 1 for a part of the value, 2 for the value whole at word 2, and 3 for the value whole while the block is being emptied. `seat` is its number among the block's seats, and `steps` are all steps that it made.
 pub struct Seat<S> {
     pub(crate) marker: PhantomData<S>,
     pub ghost id: { BlockId } by { block_id_coded },
     pub ghost right: { ℕ },
     pub ghost round: { ℕ },
     pub ghost value: { S },
-    pub ghost reads: { List (BlockId × ℕ) } by { reads_coded },
+    pub ghost seat: { ℕ },
+    pub ghost steps: { List Entry } by { steps_coded },
 }
 
 impl<S> Model for Seat<S> {
-    ghost also_owns = { λ s. seat_owns S.row (place s.id) s.id s.right s.round s.value };
+    ghost also_owns = { λ s. seat_has S.row (place s.id) s.id s.right s.round s.value s.seat s.steps };
 
-    ghost also_shares = { λ s _ κ. seat_shares S.row (place s.id) s.id s.right s.round s.value κ };
+    ghost also_shares = { λ s _ κ. seat_shows S.row (place s.id) s.id s.right s.round s.value κ };
+}
+
+impl<S> Seat<S> {
+    /// Ends a seat that never had a unit and made no step.
+    pub(crate) fn unused(self)
+        requires { (self.right ≡ 0) × (self.steps ≡ []) }
+    {
+        let Self { marker: _ } = self;
+    }
 }
 
 impl<S> Table<S> {
@@ -63,8 +74,8 @@ impl<S> Table<S> {
     /// From 0 to 2 by a compare-exchange. Returns the word as it was found.
     pub(crate) fn take(&self, at: usize, view: &mut View) -> (u64, Seat<S>)
         requires { at < length self.now.ids }
-        ensures view { (view.new.yard ≡ view.old.yard) × (view.new.reads ≡ view.old.reads ++ (id_at self.now.ids at, result.0) ∷ []) }
-        ensures seat { (result.0 ≡ 0 → (result.1.right ≡ 2) × (result.1.value ≡ self.now.empty)) × (result.0 ≢ 0 → result.1.right ≡ 0) × (result.1.id ≡ id_at self.now.ids at) × (result.1.reads ≡ []) }
+        ensures view { (view.new.yard ≡ view.old.yard) × HasTaken view.old.spent view.new.spent (id_at self.now.ids at) result.0 result.1.seat }
+        ensures seat { (result.0 ≡ 0 → (result.1.right ≡ 2) × (result.1.value ≡ self.now.empty)) × (result.0 ≢ 0 → result.1.right ≡ 0) × (result.1.id ≡ id_at self.now.ids at) × (result.1.steps ≡ []) }
     {
         let found = unsafe { exchange::<Brand>(self.words.add(at), 0, 2) };
         (
@@ -78,7 +89,7 @@ impl<S> Table<S> {
     /// Reads the word. A seat that reads 2 has the value whole from then on.
     pub(crate) fn look(&self, seat: &mut Seat<S>, at: usize) -> u64
         requires { (at < length self.now.ids) × IsHolding seat.old.right × (seat.old.id ≡ id_at self.now.ids at) }
-        ensures { (seat.new.id ≡ seat.old.id) × (seat.new.value ≡ seat.old.value) × (result ≡ 2 → seat.new.right ≡ 2) × (result ≢ 2 → seat.new.right ≡ 1) × (2 ≤ result) × (result ≤ 4294967295) × (seat.new.reads ≡ seat.old.reads ++ (seat.old.id, result) ∷ []) }
+        ensures { (seat.new.id ≡ seat.old.id) × (seat.new.value ≡ seat.old.value) × (result ≡ 2 → seat.new.right ≡ 2) × (result ≢ 2 → seat.new.right ≡ 1) × (2 ≤ result) × (result ≤ 4294967295) × (seat.new.seat ≡ seat.old.seat) × (seat.new.steps ≡ seat.old.steps ++ entry looking seat.old.seat result result 0 ∷ []) }
     {
         unsafe { raw::load::<Brand>(self.words.add(at), SeqCst) }
     }
@@ -86,8 +97,8 @@ impl<S> Table<S> {
     /// One unit more, by one compare-exchange, where the word is still `count`. Returns the word as it was found.
     pub(crate) fn share(&self, seat: &mut Seat<S>, at: usize, count: u64) -> (u64, Seat<S>)
         requires { (at < length self.now.ids) × IsHolding seat.old.right × (seat.old.right ≡ 2 → count ≡ 2) × (2 ≤ count) × (count < 4294967295) × (seat.old.id ≡ id_at self.now.ids at) }
-        ensures seat { (seat.new.id ≡ seat.old.id) × (seat.new.value ≡ seat.old.value) × (seat.new.right ≡ 1) × (seat.new.reads ≡ seat.old.reads ++ (seat.old.id, result.0) ∷ []) × (2 ≤ result.0) × (result.0 ≤ 4294967295) }
-        ensures new { (result.0 ≡ count → (result.1.right ≡ 1) × (result.1.value ≡ seat.old.value)) × (result.0 ≢ count → result.1.right ≡ 0) × (result.1.id ≡ seat.old.id) × (result.1.reads ≡ []) }
+        ensures seat { (seat.new.id ≡ seat.old.id) × (seat.new.value ≡ seat.old.value) × (seat.new.right ≡ 1) × (2 ≤ result.0) × (result.0 ≤ 4294967295) × (seat.new.seat ≡ seat.old.seat) × (seat.new.steps ≡ seat.old.steps ++ entry sharing seat.old.seat result.0 (after_share count result.0) result.1.seat ∷ []) }
+        ensures new { (result.0 ≡ count → (result.1.right ≡ 1) × (result.1.value ≡ seat.old.value)) × (result.0 ≢ count → result.1.right ≡ 0) × (result.1.id ≡ seat.old.id) × (result.1.steps ≡ []) }
     {
         let found = unsafe { exchange::<Brand>(self.words.add(at), count, count + 1) };
         (
@@ -99,21 +110,21 @@ impl<S> Table<S> {
     }
 
     /// Gives the unit back. Where the word was 2 the seat empties the block.
-    pub(crate) fn leave(&self, seat: Seat<S>, at: usize, view: &mut View) -> (u64, Seat<S>)
+    pub(crate) fn leave(&self, seat: Seat<S>, at: usize) -> (u64, Seat<S>)
         requires { (at < length self.now.ids) × IsHolding seat.right × (seat.id ≡ id_at self.now.ids at) }
-        ensures view { (view.new.yard ≡ view.old.yard) × (view.new.reads ≡ (view.old.reads ++ seat.reads) ++ (seat.id, result.0) ∷ []) }
-        ensures seat { (result.0 ≡ 2 → (result.1.right ≡ 3) × (result.1.value ≡ seat.value)) × (result.0 ≢ 2 → result.1.right ≡ 0) × (2 ≤ result.0) × (result.0 ≤ 4294967295) × (result.1.id ≡ seat.id) × (result.1.reads ≡ []) }
+        ensures { (result.0 ≡ 2 → (result.1.right ≡ 3) × (result.1.value ≡ seat.value)) × (result.0 ≢ 2 → result.1.right ≡ 0) × (2 ≤ result.0) × (result.0 ≤ 4294967295) × (result.1.id ≡ seat.id) × (result.1.seat ≡ seat.seat) × (result.1.steps ≡ seat.steps ++ entry leaving seat.seat result.0 (result.0 - 1) 0 ∷ []) }
     {
         let found = unsafe { raw::fetch_sub::<Brand>(self.words.add(at), 1, SeqCst) };
         (found, seat)
     }
 
     /// The block is free again.
-    pub(crate) fn free(&self, seat: Seat<S>, at: usize)
+    pub(crate) fn free(&self, seat: Seat<S>, at: usize) -> Seat<S>
         requires { (at < length self.now.ids) × (seat.right ≡ 3) × (seat.value ≡ self.now.empty) × (seat.id ≡ id_at self.now.ids at) }
+        ensures { (result.right ≡ 0) × (result.id ≡ seat.id) × (result.seat ≡ seat.seat) × (result.steps ≡ seat.steps ++ entry clearing seat.seat 1 0 0 ∷ []) }
     {
-        let Seat { marker: _ } = seat;
         unsafe { raw::store::<Brand>(self.words.add(at), 0, SeqCst) }
+        seat
     }
 }
 

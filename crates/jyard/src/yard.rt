@@ -1,4 +1,4 @@
-//! A yard of blocks, and the seat that an activity has in it.
+//! A yard of blocks, and an activity's place in it.
 
 use crate::shelf::Shelf;
 use crate::view::View;
@@ -10,8 +10,7 @@ pub struct Yard<T> {
     pub(crate) shelf: Arc<Shelf<T>>,
 }
 
-/// An activity's place to stand in a yard: where its next `take` begins, and what its steps read.
-#[derive(Drop)]
+/// An activity's place in a yard: where its next `take` begins, what its steps found, and the steps of the holds that it ended. It cannot be dropped: `end` ends it.
 pub struct YardPass {
     pub(crate) next: u32,
     pub(crate) view: View,

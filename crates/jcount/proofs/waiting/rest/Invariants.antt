@@ -1,6 +1,6 @@
 use Rattle.std.proofs.Common.{[]}
-use Rattle.jturn.specs.Pass.{Grows}
+use Rattle.jturn.specs.Pass.{Grew}
 use Rattle.jcount.proofs.waiting.rest.Given as goal
 
 abbrev pub invariant-loop : goal.invariant-loop
-invariant-loop g l = Grows l.initial.pass [] l.pass
+invariant-loop g l = Grew l.initial.pass [] l.pass

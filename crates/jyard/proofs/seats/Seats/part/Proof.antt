@@ -28,7 +28,7 @@ part_spec 𝓤 𝓛 𝓜 𝓡 wired X LX =
     let y : (walk_of 𝓛 En hs c).Ghost = ((κs, qs, bounds, a, (token ∷ [], tt)), gh) in let Post : Val → SProp 𝓤 = (walk_of 𝓛 En hs c).post y in
     qed 𝓛 ((raw (alive 𝓛 En.signature κs qs) ⊛ ‵ (owns (types_at En.signature.params κs) a y.0.4)) ∷ raw (fact 𝓤 _) ∷ raw (fact 𝓤 (0 < length all)) ∷ []) ∵
     keep ! (2 ∷ 0 ∷ []) $ heard ! (0 < length all) (λ some. let got = first_of all some in let s : SeatOf X.Denot = got.0 in let ss : List (SeatOf X.Denot) = got.1 in
-    let h : Sr.Denot = record { marker = record {}; id = s.id; right = s.right; round = s.round; value = s.value; reads = s.reads } in let g : Gr.Denot = record { marker = record {}; all = ss } in let Told : Type 0 = all ≡ seat_of h ∷ ss in
+    let h : Sr.Denot = record { marker = record {}; id = s.id; right = s.right; round = s.round; value = s.value; seat = s.seat; steps = s.steps } in let g : Gr.Denot = record { marker = record {}; all = ss } in let Told : Type 0 = all ≡ seat_of h ∷ ss in
     split ! $ move ! (1 ∷ []) $ fsplit ! $ fsplit ! $ keep ! (1 ∷ 3 ∷ []) $ rewrite ! 0 (λ (l : List (SeatOf X.Denot)). ‵ (seats_own R l)) got.2 refl $ fsplit ! $
     -- [what the seat has; what the others have; the tokens]
     use0 𝓛 (‵ ((SeatData R).own_val (tt, tt) (token ∷ []))) (seat_made R 𝓛) $ fjoin ! $ move ! (1 ∷ []) $ use0 𝓛 (‵ ((SeatsData R).own_val (tt, tt) (token ∷ []))) (seats_made R 𝓛) $ fjoin ! $

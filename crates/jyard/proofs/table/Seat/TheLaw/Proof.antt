@@ -12,10 +12,10 @@ use Rattle.core.specs.contracts.marker.PhantomData as P
 use Rattle.jyard.specs.Units.{place}
 use Rattle.jyard.specs.contracts.table.Seat as C
 use Rattle.jyard.proofs.table.Seat.TheLaw.Statement.{statement}
-use Rattle.jyard.proofs.Laws.{seat_laws, Lends-seat}
+use Rattle.jyard.proofs.Laws.{seat_shows_laws, Lends-holder}
 
 pub shares : (T : RattleType) (L : Laws T) → statement T L
 shares T L = of_Lends (C.struct T) (C.the_codes T.Denot T.coded (P.the_row T).coded) (C.the_heap T) (C.the_lent T)
-    (λ d p. seat_laws T L.shr_laws (place d.id) d.id d.right d.round d.value) (copy_shared (P.the_field T) (field_copy (P.the_type T) tt), tt)
+    (λ d p. seat_shows_laws T L.shr_laws (place d.id) d.id d.right d.round d.value) (copy_shared (P.the_field T) (field_copy (P.the_type T) tt), tt)
     (λ M 𝓤 𝓛 d p. let l = (C.the_row T).lives in
-    Lends-seat T L.shr_laws (place d.id) d.id 𝓛 l (Shares-less 𝓛 T T.lives l (Incl-trans (meet_⊑_left (T.lives ++ []) (((T.lives ++ []) ++ []) ++ [])) (meet_⊑_left T.lives [])) (L.shares 𝓛)) d.right d.round d.value)
+    Lends-holder T L.shr_laws (place d.id) d.id 𝓛 l (Shares-less 𝓛 T T.lives l (Incl-trans (meet_⊑_left (T.lives ++ []) (((T.lives ++ []) ++ []) ++ [])) (meet_⊑_left T.lives [])) (L.shares 𝓛)) d.right d.round d.value d.seat d.steps)

@@ -7,7 +7,7 @@ use denote.Struct.Lending.{lent_at}
 use Rattle.core.specs.contracts.marker.PhantomData as marker
 use Rattle.core.proofs.atomic.Steps.{tail}
 use Rattle.atomic_table.proofs.Walks.{proved, leaves}
-use Rattle.jyard.specs.Units.{BlockId, id_at, place, block_shares, table_shares, seat_shares}
+use Rattle.jyard.specs.Units.{BlockId, id_at, place, block_shares, table_shares, seat_shows}
 use Rattle.jyard.specs.contracts.table.Table as table
 use Rattle.jyard.specs.contracts.table.Seat as seat
 use Rattle.jyard.proofs.Fields.{pair_of, TableData, SeatData, table_told, table_opens}
@@ -43,8 +43,8 @@ get_spec 𝓤 𝓛 𝓜 𝓡 wired X LX =
     sets ! (bin ! (get ! refl) (get ! refl) tt) refl (tt, tt) $ sets_last ! (addr ! (through ! refl (stop !))) refl (tt, tt) $ exec ! 𝓣.C 𝓣.Λ Ev (tail fn.body) (at_ret Ev Post) $ sets ! (of_opd ! (get ! refl)) refl (tt, tt) $
     rewrite ! 1 (λ (ws : List Val). ‵ (cell_at q' D.mir ws b o)) (sym ev) refl $ move ! (1 ∷ 0 ∷ 2 ∷ []) $ shuts ! tt D q' (w, (p, tt)) vs b o $ move ! (2 ∷ []) $
     -- [the seat; the token of κ; the table; others]
-    use1 𝓛 (‵ (hidden_shr E κ (tt, tt) b' o') ⊛ ‵ (fhide (seat_shares R (place d.id) d.id d.right d.round x κ))) (lent_out 𝓛 (seat.struct R) (seat.the_codes X.Denot R.coded (marker.the_row R).coded) (seat.the_heap R) (seat.the_lent R) κ d b' o') $
-    split ! $ move ! (1 ∷ []) $ unhide ! $ use1 𝓛 (‵ (lent_at R (place d.id) x κ)) (seat_sees R laws (place d.id) d.id 𝓛 d.right d.round x κ asked.1) $ rewrite ! 0 (λ (r : Ptr). ‵ (lent_at R r x κ)) is_there refl $ fsplit ! $ drop ! $ hide ! $
+    use1 𝓛 (‵ (hidden_shr E κ (tt, tt) b' o') ⊛ ‵ (fhide (seat_shows R (place d.id) d.id d.right d.round x κ))) (lent_out 𝓛 (seat.struct R) (seat.the_codes X.Denot R.coded (marker.the_row R).coded) (seat.the_heap R) (seat.the_lent R) κ d b' o') $
+    split ! $ move ! (1 ∷ []) $ unhide ! $ fsplit ! $ move ! (1 ∷ []) $ drop ! $ use1 𝓛 (‵ (lent_at R (place d.id) x κ)) (seat_sees R laws (place d.id) d.id 𝓛 d.right d.round x κ asked.1) $ rewrite ! 0 (λ (r : Ptr). ‵ (lent_at R r x κ)) is_there refl $ fsplit ! $ drop ! $ hide ! $
     move ! (2 ∷ 4 ∷ []) $ join ! $ move ! (1 ∷ []) $ feq_i ! (List Val) (there ∷ []) (there ∷ []) refl $ fjoin ! $
     use0 𝓛 (raw (fact 𝓤 (x ≡ x))) (fact_i 𝓤 (x ≡ x) (emp 𝓤) refl) $ nothing ! $ nothing ! $ fjoin ! $ nothing ! $ fjoin ! $ nothing ! $ fjoin ! $
     returns ! (look_at ! 0 refl) $ free_all ! refl $ keep ! (3 ∷ 0 ∷ 2 ∷ 1 ∷ []) $ by ! (leaves 𝓛 En hs c y there (record { ref_ptr = (pb, po); now = x }) (tt, (tt, (tt, tt))) (tt, (tt, (tt, tt))))))))))

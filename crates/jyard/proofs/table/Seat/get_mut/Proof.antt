@@ -8,12 +8,12 @@ use denote.Follow.{lends_Part, Part, follows}
 use denote.Param.Laws.{param_laws}
 use Rattle.core.proofs.atomic.Steps.{tail}
 use Rattle.atomic_table.proofs.Walks.{proved, leaves}
-use Rattle.jyard.specs.Units.{BlockId, id_at, place, block_shares, table_shares, seat_owns, whole as all_of}
+use Rattle.jyard.specs.Units.{BlockId, id_at, place, block_shares, table_shares, seat_has, whole as all_of}
 use Rattle.jyard.specs.Lent.{with_value}
 use Rattle.jyard.specs.contracts.table.Table as table
 use Rattle.jyard.specs.contracts.table.Seat as seat
 use Rattle.jyard.proofs.Fields.{pair_of, TableData, SeatData, table_told, table_opens}
-use Rattle.jyard.proofs.Laws.{shown_at, beside_whole, whole_out, whole_in}
+use Rattle.jyard.proofs.Laws.{shown_at, beside_value, value_out, value_in}
 use Rattle.jyard.proofs.Offsets.{uncapped}
 use Rattle.jyard.specs.contracts.table.Seat.get_mut.{ended, clauses}
 use Rattle.jyard.specs.contracts.table.Seat.get_mut.Key.{name as #self}
@@ -46,12 +46,12 @@ get_mut_spec 𝓤 𝓛 𝓜 𝓡 wired X LX =
     sets ! (bin ! (get ! refl) (get ! refl) tt) refl (tt, tt) $ sets_last ! (addr ! (through ! refl (stop !))) refl (tt, tt) $ exec ! 𝓣.C 𝓣.Λ Ev (tail fn.body) (at_ret Ev Post) $ sets ! (of_opd ! (get ! refl)) refl (tt, tt) $
     rewrite ! 1 (λ (ws : List Val). ‵ (cell_at q' D.mir ws b o)) (sym ev) refl $ move ! (1 ∷ 0 ∷ 2 ∷ []) $ shuts ! tt D q' (w, (p, tt)) vs b o $ move ! (2 ∷ 3 ∷ 0 ∷ []) $
     opens ! tt Sr b' o' (λ ts. move ! (1 ∷ []) $ fsplit ! $ move ! (1 ∷ []) $
-    use1 𝓛 (‵ (beside_whole R L π h.id h.right) ⊛ ‵ (all_of R π h.id x)) (whole_out R L π h.id 𝓛 h.right h.round x asked.1) $ split ! $ move ! (1 ∷ []) $ rewrite ! 0 (λ (r : Ptr). ‵ (lies_at R full_share r x)) is_there refl $
+    use1 𝓛 (‵ (beside_value R L π h.id h.right h.seat h.steps) ⊛ ‵ (all_of R π h.id x)) (value_out R L π h.id 𝓛 h.right h.round x h.seat h.steps asked.1) $ split ! $ move ! (1 ∷ []) $ rewrite ! 0 (λ (r : Ptr). ‵ (lies_at R full_share r x)) is_there refl $
     -- [the value; what is beside it; the field; the seat's cell; three entries; the table; others]
-    let Rest : Fml = fsep (beside_whole R L π h.id h.right) (fsep (E.own_val (tt, tt) ts) (cell_at full_share Sr.mir ts b' o')) in
+    let Rest : Fml = fsep (beside_value R L π h.id h.right h.seat h.steps) (fsep (E.own_val (tt, tt) ts) (cell_at full_share Sr.mir ts b' o')) in
     let back : (v : X.Denot) → ent 𝓤 (sep 𝓤 (sem 𝓛 ((mem R).own_at v pb po)) (sem 𝓛 Rest)) (sem 𝓛 ((mem Sr).own_at (F v) b' o')) = λ v.
     qed 𝓛 (‵ (part_at R full_share v pb po) ∷ ‵ Rest ∷ []) ∵ rewrite ! 0 (λ (r : Ptr). ‵ (lies_at R full_share r v)) (sym is_there) refl $ move ! (1 ∷ []) $ fsplit3 ! $ move ! (0 ∷ 3 ∷ []) $ join ! $
-    use1 𝓛 (‵ (seat_owns R π h.id h.right h.round v)) (whole_in R L π h.id 𝓛 h.right h.round v asked.1) $ move ! (1 ∷ 0 ∷ []) $ fjoin ! $ move ! (1 ∷ 0 ∷ []) $ fjoin ! $
+    use1 𝓛 (‵ (seat_has R π h.id h.right h.round v h.seat h.steps)) (value_in R L π h.id 𝓛 h.right h.round v h.seat h.steps asked.1) $ move ! (1 ∷ 0 ∷ []) $ fjoin ! $ move ! (1 ∷ 0 ∷ []) $ fjoin ! $
     fpack ! (List Val) (λ us. fsep (cell_at full_share Sr.mir us b' o') (Sr.own_val (F v) us)) ts $ done ! in
     move ! (1 ∷ 2 ∷ 3 ∷ []) $ fjoin3 ! $ move ! (2 ∷ 3 ∷ 4 ∷ 1 ∷ 0 ∷ []) $ group ! 5 $
     use1 𝓛 (later (some (λ (γ' : ℕ). raw (Part 𝓛 Sr R F (named 0) κ q b' o' pb po γ (sem 𝓛 Rest) back x γ')))) (lends_Part 𝓛 Sr R F (named 0) κ q b' o' pb po γ (sem 𝓛 Rest) back (Sr.coded.code h) (Sr.coded.code h) x) $ await ! tt $ pick ! (λ γ'.

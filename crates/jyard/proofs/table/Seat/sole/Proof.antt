@@ -1,5 +1,5 @@
 -- `sole` is one load, and lends the value where it found 2.
-use Rattle.atomic_table.proofs.Names.{◌≡◌, List, [], ◌∷◌, ℕ, ◌^◌, ◌<◌, ◌≤◌, refl, sym, ap, ◌∙◌, lit<, w64, a_type, named, Val, vint, vptr, inst_fn, SProp, emp, via, id⊢, Lft, Share, Fml, ftrue, fsep, flft, sem, ‵, raw, ◌⊛◌, later, await, mean, at_ret, ◌$◌, ◌∵◌, !, qed, by, move, keep, drop, split, split3, join, group, some, pick, done, ent, sep, fpack, fsplit, fsplit3, fjoin, fjoin3, fpick, use0, use1, use3, rewrite, feq_i, flt_i, stop, fld, load, lit, of_opd, no_more, and_then, first, blocks, exec, Calls-last, returns, enter, alloc_all, pass_all, free_all, look_at, get, through, sets, sets_last, bin, addr, lands_last, is, env, agg, sub, whole, look_in, tables, yes, no, RattleType, owns, types_at, plain, Ptr, block_ptr, ptr_val, nothing, heard, param, layouts, Stays, stay_dropped, walk_of, Goes-dropped, fact, fact_i, arith, Is, shows, cell_at, peeks, block_of, count_of, at_block, RefOf, RefMutOf, Goes-spent_ref, part_at, full_share, mem, u64, mut_vals, mut_Tells, shr_vals, shr_Tells, opens, closes, unhide, hidden_shr, looks, shuts, lent_out, shr_bor-open, obor_close, tokens_halve, ◌*◌, ◌+◌, length, subst, size_word, usize, uint_vals, uint_Tells}
+use Rattle.atomic_table.proofs.Names.{◌≡◌, List, [], ◌∷◌, ℕ, ◌^◌, ◌<◌, ◌≤◌, ◌++◌, refl, sym, ap, ◌∙◌, lit<, w64, a_type, named, Val, vint, vptr, inst_fn, SProp, emp, via, id⊢, Lft, Share, Fml, ftrue, fsep, flft, sem, ‵, raw, ◌⊛◌, later, await, mean, at_ret, ◌$◌, ◌∵◌, !, qed, by, move, keep, drop, split, split3, join, group, some, pick, done, ent, sep, fpack, fsplit, fsplit3, fjoin, fjoin3, fpick, use0, use1, use3, rewrite, feq_i, flt_i, stop, fld, load, lit, of_opd, no_more, and_then, first, blocks, exec, Calls-last, returns, enter, alloc_all, pass_all, free_all, look_at, get, through, sets, sets_last, bin, addr, lands_last, is, env, agg, sub, whole, look_in, tables, yes, no, RattleType, owns, types_at, plain, Ptr, block_ptr, ptr_val, nothing, heard, param, layouts, Stays, stay_dropped, walk_of, Goes-dropped, fact, fact_i, arith, Is, shows, cell_at, peeks, block_of, count_of, at_block, RefOf, RefMutOf, Goes-spent_ref, part_at, full_share, mem, u64, mut_vals, mut_Tells, shr_vals, shr_Tells, opens, closes, unhide, hidden_shr, looks, shuts, lent_out, shr_bor-open, obor_close, tokens_halve, ◌*◌, ◌+◌, length, subst, size_word, usize, uint_vals, uint_Tells}
 use Rattle.std.proofs.Common.{◌≢◌}
 use base.Fml.{fhide, fres}
 use mir.Val.{vcons, vnil}
@@ -13,12 +13,13 @@ use Rattle.std_alloc.proofs.RcSteps.{is_not, is_so}
 use Rattle.std_alloc.proofs.ResultValues.{ok_of, err_of}
 use Rattle.core.specs.contracts.result.Result as RS
 use Rattle.core.specs.declared.result.Result.TheVariants.{Ok, Err}
-use Rattle.jyard.specs.Lent.{with_value, with_right, with_read, found_in}
+use Rattle.jyard.specs.Lent.{with_value, with_right, with_look, found_in}
 use denote.Param.Laws.{param_laws}
 use Rattle.core.proofs.atomic.Steps.{tail}
 use Rattle.atomic_table.proofs.Walks.{proved, leaves}
 use Rattle.atomic_table.proofs.Calls.{fm, seq_cst, found, finds, loads}
-use Rattle.jyard.specs.Units.{BlockId, age, id_at, place, IsHolding, block_shares, table_shares, seat_owns}
+use Rattle.jyard.specs.Units.{BlockId, age, id_at, place, IsHolding, block_shares, table_shares, seat_has, sits, holder}
+use Rattle.jyard.specs.Logs.{Entry, entry, looking}
 use Rattle.jyard.specs.contracts.table.Table as table
 use Rattle.jyard.specs.contracts.table.Seat as seat
 use Rattle.jyard.proofs.Fields.{pair_of, TableData, SeatData, table_told, table_opens}
@@ -42,7 +43,7 @@ sole_spec 𝓤 𝓛 𝓜 𝓡 wired X LX =
     let b : ℕ = a.1.0.ref_ptr.0 in let o : ℕ = a.1.0.ref_ptr.1 in let κ : Lft = κs.0 in let q : Share = qs.0 in let kb : Lft = κs.1.0 in let qb : Share = qs.1.0 in let others : Fml = fsep (flft κs.1.1.0 qs.1.1.0) ftrue in
     let t : Row.Denot = a.1.0.now in let w : Ptr = t.words in let p : Ptr = t.cells in let ids : List BlockId = t.ids in let empty : X.Denot = t.empty in let i : ℕ = a.1.1.0 in let z : BlockId = id_at ids i in let α : Lft = age z in let wb : ℕ = block_of w in let wo : ℕ = i * 8 + count_of w in let sz : ℕ = (mem R).size in let eb : ℕ = block_of p in let eo : ℕ = i * sz + count_of p in
     let b' : ℕ = a.0.ref_ptr.0 in let o' : ℕ = a.0.ref_ptr.1 in let γ : ℕ = a.0.ghost_name in let h : Sr.Denot = a.0.now in let e : Ptr = place h.id in let m : ℕ = h.round in let x : X.Denot = h.value in
-    let Asked : Type 0 = (i < length ids) × IsHolding h.right × (h.id ≡ z) in let Lent : RattleType = MutRef (named 0) κ R in let F : X.Denot → Sr.Denot = λ v. with_read (with_right (with_value h v) 2) 2 in
+    let Asked : Type 0 = (i < length ids) × IsHolding h.right × (h.id ≡ z) in let Lent : RattleType = MutRef (named 0) κ R in let F : X.Denot → Sr.Denot = λ v. with_look (with_right (with_value h v) 2) 2 in
     let y : (walk_of 𝓛 En hs c).Ghost = ((κs, qs, bounds, a, (vptr b' o' ∷ [], (vptr b o ∷ [], (vint w64 i ∷ [], tt)))), gh) in let Post : Val → SProp 𝓤 = (walk_of 𝓛 En hs c).post y in
     qed 𝓛 (((‵ (flft κ q) ⊛ ‵ (flft kb qb) ⊛ ‵ others) ⊛ ‵ (owns (types_at En.signature.params κs) a y.0.4)) ∷ raw (fact 𝓤 _) ∷ raw (fact 𝓤 Asked) ∷ []) ∵
     keep ! (2 ∷ 0 ∷ []) $ heard ! Asked (λ asked. split ! $ split3 ! $ move ! (3 ∷ []) $ fsplit3 ! $ fsplit3 ! $ move ! (3 ∷ []) $ fsplit ! $ keep ! (1 ∷ 7 ∷ 3 ∷ 4 ∷ 6 ∷ 8 ∷ []) $
@@ -56,22 +57,22 @@ sole_spec 𝓤 𝓛 𝓜 𝓡 wired X LX =
     sets ! (is ! (of_opd ! (load ! (through ! refl (fld ! refl (stop !))) (look_in ! 1 (sub ! 0 refl (whole !))))) (ap ptr_val at)) refl (tt, tt) $
     sets ! (bin ! (get ! refl) (lit ! tt) (record { fits = small })) refl (tt, record { fits = small }) $ sets ! (bin ! (get ! refl) (get ! refl) tt) refl (tt, tt) $
     rewrite ! 1 (λ (ws : List Val). ‵ (cell_at q' D.mir ws b o)) (sym ev) refl $ move ! (1 ∷ 0 ∷ 2 ∷ []) $ shuts ! tt D q' (w, (p, tt)) vs b o $ move ! (3 ∷ 0 ∷ []) $
-    shr_bor-open ! tt (tokens_halve 𝓛 α) (λ s. let Won : ℕ → Fml = steps.Seen 𝓛 R L (place z) z empty wb wo m x in let after : ℕ → Fml = λ n. fsep (flft α s) (Won n) in
-    move ! (4 ∷ 5 ∷ 6 ∷ []) $ opens ! tt Sr b' o' (λ ts. move ! (1 ∷ []) $ fsplit ! $ rewrite ! 1 (λ (u : BlockId). ‵ (seat_owns R (place u) u h.right m x)) asked.2 refl $
+    shr_bor-open ! tt (tokens_halve 𝓛 α) (λ s. let Won : ℕ → Fml = steps.Sight 𝓛 R L (place z) z empty wb wo m x h.seat h.steps in let after : ℕ → Fml = λ n. fsep (flft α s) (Won n) in
+    move ! (4 ∷ 5 ∷ 6 ∷ []) $ opens ! tt Sr b' o' (λ ts. move ! (1 ∷ []) $ fsplit ! $ rewrite ! 1 (λ (u : BlockId). ‵ (seat_has R (place u) u h.right m x h.seat h.steps)) asked.2 refl $
     -- [the field; what the seat has; its cell; three entries; the open borrow; the block's token; self; the invariant; others]
     move ! (9 ∷ 7 ∷ 1 ∷ []) $ use3 𝓛 (raw (𝓣.C _ (vptr wb wo ∷ seq_cst ∷ []) (λ u. mean 𝓛 (found after u))))
-    (via 𝓤 _ (steps.looks 𝓛 R L (place z) z empty wb wo m x h.right (steps.one_or_two h.right asked.1) s) (loads 𝓛 𝓜 𝓡 (code.calls-core::raw_atomic::load 𝓡.env wired) (block_ptr wb wo) after)) $
+    (via 𝓤 _ (steps.looks 𝓛 R L (place z) z empty wb wo m x h.seat h.steps h.right (steps.one_or_two h.right asked.1) s) (loads 𝓛 𝓜 𝓡 (code.calls-core::raw_atomic::load 𝓡.env wired) (block_ptr wb wo) after)) $
     sets ! (agg ! (and_then ! (lit ! tt) (no_more !))) refl (tt, (record { fits = lit< tt }, tt)) $
     Calls-last ! (fm 𝓛 𝓜 𝓡) (found after) (and_then ! (get ! refl) (and_then ! (get ! refl) (no_more !))) (λ u. finds ! after (λ n fits.
     lands_last ! refl (tt, record { fits = fits }) $ exec ! 𝓣.C 𝓣.Λ Ev (tail fn.body) (at_ret Ev Post) $ sets ! (of_opd ! (get ! refl)) refl (tt, record { fits = fits }) $
-    fsplit ! $ move ! (7 ∷ 0 ∷ []) $ obor_close ! tt $ drop ! $ move ! (1 ∷ []) $ fpick ! (λ won. fsplit ! $ fpick ! (λ told. drop ! $ let k : ℕ = steps.rank 𝓛 R L (place z) z empty wb wo won in
-    use1 𝓛 (later (‵ (seat_owns R (place z) z k m x))) (steps.settles 𝓛 R L (place z) z empty wb wo m x won) $ await ! tt $
-    rewrite ! 0 (λ (u : BlockId). ‵ (seat_owns R (place u) u k m x)) (sym asked.2) refl $
+    fsplit ! $ move ! (7 ∷ 0 ∷ []) $ obor_close ! tt $ drop ! $ move ! (1 ∷ []) $ fpick ! (λ won. fsplit ! $ fpick ! (λ told. drop ! $ let k : ℕ = steps.rank 𝓛 R L (place z) z empty wb wo won in let on : List Entry = h.steps ++ entry looking h.seat n n 0 ∷ [] in
+    use1 𝓛 (later (‵ (seat_has R (place z) z k m x h.seat on))) (steps.has_looked 𝓛 R L (place z) z empty wb wo m x h.seat h.steps n won told) $ await ! tt $
+    rewrite ! 0 (λ (u : BlockId). ‵ (seat_has R (place u) u k m x h.seat on)) (sym asked.2) refl $
     -- [what the seat has; a token of κ; the field; the seat's cell; its open borrow; obs; auth; self; others]
     sets ! (bin ! (get ! refl) (lit ! tt) tt) refl (tt, tt) $ first ! $ branches ! (get ! refl)
-    (λ more. let h₁ : Sr.Denot = with_read (with_right h 1) n in let ne : n ≢ 2 = is_not n 2 more in let above : 2 < n = (let two = told.2 in omega arith) in
+    (λ more. let h₁ : Sr.Denot = with_look (with_right h 1) n in let ne : n ≢ 2 = is_not n 2 more in let above : 2 < n = (let two = told.2 in omega arith) in
     sets ! (agg ! (and_then ! (lit ! tt) (and_then ! (get ! refl) (no_more !)))) refl (tt, (record { fits = lit< tt }, (record { fits = fits }, tt))) $
-    rewrite ! 0 (λ (j : ℕ). ‵ (seat_owns R e h.id j m x)) (told.1 ne) refl $ move ! (2 ∷ 0 ∷ []) $ fjoin ! $ move ! (2 ∷ 0 ∷ 3 ∷ 4 ∷ 5 ∷ []) $ closes ! tt Sr h₁ ts b' o' $
+    rewrite ! 0 (λ (j : ℕ). ‵ (seat_has R e h.id j m x h.seat on)) (told.1 ne) refl $ move ! (2 ∷ 0 ∷ []) $ fjoin ! $ move ! (2 ∷ 0 ∷ 3 ∷ 4 ∷ 5 ∷ []) $ closes ! tt Sr h₁ ts b' o' $
     use1 𝓛 (‵ (fres γ (Sr.coded.code h₁))) (𝓛.names.obs-res γ (Sr.coded.code h₁)) $ move ! (3 ∷ 5 ∷ []) $ join ! $ move ! (3 ∷ 0 ∷ []) $ join ! $
     let A₂ : Type 0 = Unit {0} in let A₃ : Type 0 = (2 < n) × (n ≤ 4294967295) in
     use0 𝓛 (raw (fact 𝓤 A₃)) (fact_i 𝓤 A₃ (emp 𝓤) (above, told.3)) $ use0 𝓛 (raw (fact 𝓤 A₂)) (fact_i 𝓤 A₂ (emp 𝓤) tt) $ join ! $ move ! (2 ∷ 0 ∷ []) $ join ! $
@@ -80,7 +81,7 @@ sole_spec 𝓤 𝓛 𝓜 𝓡 wired X LX =
     returns_within ! Post refl (look_at ! 0 refl) $ free_all ! refl $ keep ! (3 ∷ 0 ∷ 1 ∷ 2 ∷ []) $ by ! (leaves 𝓛 En hs c y (live 1 (vcons (vint w64 n) vnil)) (Err n) (tt, (tt, (tt, tt))) (tt, (tt, (tt, tt)))))
     (λ last. let eq : n ≡ 2 = is_so n 2 last in
     skips ! $ exec ! 𝓣.C 𝓣.Λ Ev (tail (tail (tail (tail fn.body)))) (at_ret Ev Post) $
-    rewrite ! 0 (λ (j : ℕ). ‵ (seat_owns R e h.id j m x)) (told.0 eq) refl $ move ! (7 ∷ 1 ∷ []) $
+    rewrite ! 0 (λ (v : ℕ × ℕ). ‵ (seat_has R e h.id v.0 m x h.seat (h.steps ++ entry looking h.seat v.1 v.1 0 ∷ []))) (λ v. (told.0 eq v, eq v)) refl $ move ! (7 ∷ 1 ∷ []) $
     looks ! tt D (table_opens R 𝓛) (w, (p, tt)) b o (λ r' us. move ! (1 ∷ []) $ peeks ! D (Is D) (shows 𝓛 D) (w, (p, tt)) us (λ still. let eu : us ≡ pair_of w p ∷ [] = table_told R w p us still in
     rewrite ! 1 (λ (ws : List Val). ‵ (cell_at r' D.mir ws b o)) eu refl $ first ! $ blocks ! $
     sets ! (is ! (of_opd ! (load ! (through ! refl (fld ! refl (stop !))) (look_in ! 1 (sub ! 1 refl (whole !))))) (ap ptr_val cells_at)) refl (tt, tt) $
@@ -88,10 +89,10 @@ sole_spec 𝓤 𝓛 𝓜 𝓡 wired X LX =
     sets ! (bin ! (get ! refl) (get ! refl) tt) refl (tt, tt) $ sets ! (addr ! (through ! refl (stop !))) refl (tt, tt) $ sets_last ! (agg ! (and_then ! (lit ! tt) (and_then ! (get ! refl) (no_more !)))) refl (tt, (record { fits = lit< tt }, (tt, tt))) $
     exec ! 𝓣.C 𝓣.Λ Ev (tail (tail (tail (tail (tail fn.body))))) (at_ret Ev Post) $ sets ! (of_opd ! (get ! refl)) refl (tt, (record { fits = lit< tt }, (tt, tt))) $
     rewrite ! 1 (λ (ws : List Val). ‵ (cell_at r' D.mir ws b o)) (sym eu) refl $ move ! (1 ∷ 0 ∷ 2 ∷ []) $ shuts ! tt D r' (w, (p, tt)) us b o $
-    move ! (2 ∷ 0 ∷ 3 ∷ 4 ∷ 5 ∷ 6 ∷ 7 ∷ 1 ∷ []) $ fsplit ! $ move ! (1 ∷ []) $ rewrite ! 0 (λ (r : Ptr). ‵ (lies_at R full_share r x)) ate refl $ move ! (1 ∷ 0 ∷ []) $
-    let Rest : Fml = fsep (out h.id.alone_name) (fsep (E.own_val (tt, tt) ts) (cell_at full_share Sr.mir ts b' o')) in
+    move ! (2 ∷ 0 ∷ 3 ∷ 4 ∷ 5 ∷ 6 ∷ 7 ∷ 1 ∷ []) $ fsplit ! $ fsplit ! $ move ! (0 ∷ 2 ∷ []) $ fjoin ! $ move ! (1 ∷ []) $ rewrite ! 0 (λ (r : Ptr). ‵ (lies_at R full_share r x)) ate refl $ move ! (1 ∷ 0 ∷ []) $
+    let two : List Entry = h.steps ++ entry looking h.seat 2 2 0 ∷ [] in let Rest : Fml = fsep (fsep (out h.id.alone_name) (sits h.id h.seat (holder 2 two))) (fsep (E.own_val (tt, tt) ts) (cell_at full_share Sr.mir ts b' o')) in
     let back : (v : X.Denot) → ent 𝓤 (sep 𝓤 (sem 𝓛 ((mem R).own_at v eb eo)) (sem 𝓛 Rest)) (sem 𝓛 ((mem Sr).own_at (F v) b' o')) = λ v.
-    qed 𝓛 (‵ (part_at R full_share v eb eo) ∷ ‵ Rest ∷ []) ∵ rewrite ! 0 (λ (r : Ptr). ‵ (lies_at R full_share r v)) (sym ate) refl $ move ! (1 ∷ []) $ fsplit3 ! $ move ! (0 ∷ 3 ∷ []) $ fjoin ! $
+    qed 𝓛 (‵ (part_at R full_share v eb eo) ∷ ‵ Rest ∷ []) ∵ rewrite ! 0 (λ (r : Ptr). ‵ (lies_at R full_share r v)) (sym ate) refl $ move ! (1 ∷ []) $ fsplit3 ! $ fsplit ! $ move ! (0 ∷ 4 ∷ []) $ fjoin ! $ fjoin ! $
     move ! (1 ∷ 0 ∷ []) $ fjoin ! $ move ! (1 ∷ 0 ∷ []) $ fjoin ! $ fpack ! (List Val) (λ us. fsep (cell_at full_share Sr.mir us b' o') (Sr.own_val (F v) us)) ts $ done ! in
     move ! (0 ∷ 3 ∷ 4 ∷ []) $ fjoin3 ! $ move ! (3 ∷ 4 ∷ 5 ∷ 1 ∷ 0 ∷ []) $ group ! 5 $
     use1 𝓛 (later (some (λ (γ' : ℕ). raw (Part 𝓛 Sr R F (named 0) κ q b' o' eb eo γ (sem 𝓛 Rest) back x γ')))) (lends_Part 𝓛 Sr R F (named 0) κ q b' o' eb eo γ (sem 𝓛 Rest) back (Sr.coded.code h) (Sr.coded.code h) x) $ await ! tt $ pick ! (λ γ'.

@@ -1,14 +1,15 @@
 -- `free` is one store, which gives the value to the block.
-use Rattle.atomic_table.proofs.Names.{◌^◌, ◌≡◌, List, [], ◌∷◌, ℕ, refl, sym, ap, lit<, w64, a_type, named, Val, vunit, vint, vptr, inst_fn, SProp, via, Lft, Share, Fml, ftrue, fsep, flft, ‵, raw, ◌⊛◌, mean, at_ret, ◌$◌, ◌∵◌, !, qed, by, move, keep, drop, split, join, fsplit, fsplit3, fjoin, fpick, use1, use3, rewrite, feq_i, stop, fld, load, lit, unit_lit, of_opd, no_more, and_then, first, blocks, exec, Calls-last, returns, enter, alloc_all, pass_all, free_all, look_at, get, through, sets, lands_last, is, env, agg, sub, whole, look_in, tables, yes, no, RattleType, owns, types_at, plain, Ptr, block_ptr, ptr_val, nothing, heard, param, layouts, Stays, stay_dropped, walk_of, Goes-dropped, fact, Is, shows, cell_at, peeks, block_of, count_of, at_block, RefOf, shr_vals, shr_Tells, unhide, hidden_shr, looks, shuts, lent_out, shr_bor-open, obor_close, tokens_halve, ◌*◌, ◌+◌, ◌<◌, length, arith, bin, usize, uint_vals, uint_Tells}
+use Rattle.atomic_table.proofs.Names.{◌^◌, ◌≡◌, List, [], ◌∷◌, ℕ, refl, sym, ap, ◌++◌, lit<, w64, a_type, named, Val, vint, vptr, inst_fn, SProp, emp, via, Lft, Share, Fml, ftrue, fsep, flft, ‵, raw, ◌⊛◌, mean, at_ret, ◌$◌, ◌∵◌, !, qed, by, move, keep, drop, split, join, fsplit, fsplit3, fjoin, fpick, use0, use1, use3, rewrite, stop, fld, load, lit, of_opd, no_more, and_then, first, blocks, exec, Calls-last, returns, enter, alloc_all, pass_all, free_all, look_at, get, through, sets, lands_last, is, env, agg, sub, whole, look_in, tables, yes, no, RattleType, owns, types_at, plain, Ptr, block_ptr, ptr_val, nothing, heard, param, layouts, Stays, stay_dropped, walk_of, Goes-dropped, fact, fact_i, Is, shows, cell_at, peeks, block_of, count_of, at_block, RefOf, shr_vals, shr_Tells, unhide, hidden_shr, looks, shuts, lent_out, shr_bor-open, obor_close, tokens_halve, ◌*◌, ◌+◌, ◌<◌, length, arith, bin, usize, uint_vals, uint_Tells}
 use base.Fml.{fhide}
 use denote.Param.Laws.{param_laws}
 use Rattle.core.proofs.atomic.Steps.{tail}
 use Rattle.atomic_table.proofs.Walks.{proved, leaves}
 use Rattle.atomic_table.proofs.Calls.{fm, seq_cst, stored, has_stored, stores}
-use Rattle.jyard.specs.Units.{BlockId, age, id_at, place, block_shares, table_shares, seat_owns}
+use Rattle.jyard.specs.Units.{BlockId, age, id_at, place, block_shares, table_shares, seat_has}
+use Rattle.jyard.specs.Logs.{Entry, entry, clearing}
 use Rattle.jyard.specs.contracts.table.Table as table
 use Rattle.jyard.specs.contracts.table.Seat as seat
-use Rattle.jyard.proofs.Fields.{pair_of, token, token_good, TableData, table_told, table_opens, seat_told}
+use Rattle.jyard.proofs.Fields.{pair_of, token, token_good, TableData, SeatData, table_told, table_opens, seat_told, seat_made}
 use Rattle.jyard.proofs.Laws.{shown_at}
 use Rattle.jyard.proofs.Steps as steps
 use Rattle.jyard.specs.contracts.table.Table.free.{ended, clauses}
@@ -25,7 +26,7 @@ free_spec 𝓤 𝓛 𝓜 𝓡 wired X LX =
     (λ κs. (shr_vals, ((λ e. token ∷ []), (uint_vals w64, tt)))) (λ κs. (shr_Tells (named 0) κs.0 Row, ((λ e vs so. seat_told R vs so.0), (uint_Tells w64, tt)))) (λ κs qs bounds a gh are.
     let b : ℕ = a.0.ref_ptr.0 in let o : ℕ = a.0.ref_ptr.1 in let κ : Lft = κs.0 in let q : Share = qs.0 in let others : Fml = fsep (flft κs.1.0 qs.1.0) ftrue in
     let t : Row.Denot = a.0.now in let w : Ptr = t.words in let p : Ptr = t.cells in let ids : List BlockId = t.ids in let empty : X.Denot = t.empty in let i : ℕ = a.1.1.0 in let z : BlockId = id_at ids i in let α : Lft = age z in let wb : ℕ = block_of w in let wo : ℕ = i * 8 + count_of w in
-    let h : Sr.Denot = a.1.0 in let m : ℕ = h.round in let x : X.Denot = h.value in let Asked : Type 0 = (i < length ids) × (h.right ≡ 3) × (x ≡ empty) × (h.id ≡ z) in
+    let h : Sr.Denot = a.1.0 in let m : ℕ = h.round in let x : X.Denot = h.value in let on : List Entry = h.steps ++ entry clearing h.seat 1 0 0 ∷ [] in let Asked : Type 0 = (i < length ids) × (h.right ≡ 3) × (x ≡ empty) × (h.id ≡ z) in
     let y : (walk_of 𝓛 En hs c).Ghost = ((κs, qs, bounds, a, (vptr b o ∷ [], (token ∷ [], (vint w64 i ∷ [], tt)))), gh) in let Post : Val → SProp 𝓤 = (walk_of 𝓛 En hs c).post y in
     qed 𝓛 (((‵ (flft κ q) ⊛ ‵ others) ⊛ ‵ (owns (types_at En.signature.params κs) a y.0.4)) ∷ raw (fact 𝓤 _) ∷ raw (fact 𝓤 Asked) ∷ []) ∵
     keep ! (2 ∷ 0 ∷ []) $ heard ! Asked (λ asked. split ! $ split ! $ move ! (2 ∷ []) $ fsplit3 ! $ fsplit ! $ move ! (2 ∷ []) $ fsplit ! $ keep ! (3 ∷ 5 ∷ 1 ∷ 6 ∷ []) $
@@ -37,12 +38,16 @@ free_spec 𝓤 𝓛 𝓜 𝓡 wired X LX =
     sets ! (is ! (of_opd ! (load ! (through ! refl (fld ! refl (stop !))) (look_in ! 1 (sub ! 0 refl (whole !))))) (ap ptr_val at)) refl (tt, tt) $
     sets ! (bin ! (get ! refl) (lit ! tt) (record { fits = small })) refl (tt, record { fits = small }) $ sets ! (bin ! (get ! refl) (get ! refl) tt) refl (tt, tt) $
     rewrite ! 1 (λ (ws : List Val). ‵ (cell_at q' D.mir ws b o)) (sym ev) refl $ move ! (1 ∷ 0 ∷ 2 ∷ []) $ shuts ! tt D q' (w, (p, tt)) vs b o $ move ! (3 ∷ 0 ∷ []) $
-    shr_bor-open ! tt (tokens_halve 𝓛 α) (λ s. let after : Fml = fsep (flft α s) ftrue in
-    rewrite ! 4 (λ (u : BlockId × (ℕ × X.Denot)). ‵ (seat_owns R (place u.0) u.0 u.1.0 m u.1.1)) (λ j. (asked.3 j, (asked.1 j, asked.2 j))) refl $ move ! (3 ∷ 1 ∷ 4 ∷ []) $
+    shr_bor-open ! tt (tokens_halve 𝓛 α) (λ s. let after : Fml = fsep (flft α s) (seat_has R (place z) z 0 m empty h.seat on) in
+    rewrite ! 4 (λ (u : BlockId × (ℕ × X.Denot)). ‵ (seat_has R (place u.0) u.0 u.1.0 m u.1.1 h.seat h.steps)) (λ j. (asked.3 j, (asked.1 j, asked.2 j))) refl $ move ! (3 ∷ 1 ∷ 4 ∷ []) $
     use3 𝓛 (raw (𝓣.C _ (vptr wb wo ∷ vint w64 0 ∷ seq_cst ∷ []) (λ u. mean 𝓛 (stored after u))))
-    (via 𝓤 _ (steps.frees 𝓛 R L (place z) z empty wb wo s) (stores 𝓛 𝓜 𝓡 (code.calls-core::raw_atomic::store 𝓡.env wired) (block_ptr wb wo) 0 (lit< tt) after)) $
+    (via 𝓤 _ (steps.frees 𝓛 R L (place z) z empty wb wo h.seat h.steps m s) (stores 𝓛 𝓜 𝓡 (code.calls-core::raw_atomic::store 𝓡.env wired) (block_ptr wb wo) 0 (lit< tt) after)) $
     sets ! (agg ! (and_then ! (lit ! tt) (no_more !))) refl (tt, (record { fits = lit< tt }, tt)) $
     Calls-last ! (fm 𝓛 𝓜 𝓡) (stored after) (and_then ! (get ! refl) (and_then ! (lit ! tt) (and_then ! (get ! refl) (no_more !)))) (λ u. has_stored ! after (
-    lands_last ! refl (tt, tt) $ exec ! 𝓣.C 𝓣.Λ Ev (tail fn.body) (at_ret Ev Post) $ sets ! (of_opd ! (unit_lit !)) refl (tt, tt) $
-    fsplit ! $ move ! (2 ∷ 0 ∷ []) $ obor_close ! tt $ drop ! $ move ! (0 ∷ 3 ∷ []) $ join ! $ nothing ! $ feq_i ! (List Val) (vunit ∷ []) (vunit ∷ []) refl $ nothing ! $ nothing ! $ fjoin ! $ nothing ! $ fjoin ! $ nothing ! $ fjoin ! $
-    returns ! (look_at ! 0 refl) $ free_all ! refl $ keep ! (3 ∷ 0 ∷ 1 ∷ 2 ∷ []) $ by ! (leaves 𝓛 En hs c y vunit tt (tt, (tt, (tt, tt))) (tt, (tt, (tt, tt)))))))))))))
+    lands_last ! refl (tt, tt) $ exec ! 𝓣.C 𝓣.Λ Ev (tail fn.body) (at_ret Ev Post) $ sets ! (of_opd ! (get ! refl)) refl token_good $
+    fsplit ! $ move ! (2 ∷ 0 ∷ []) $ obor_close ! tt $ drop ! $ move ! (1 ∷ []) $ rewrite ! 0 (λ (u : BlockId). ‵ (seat_has R (place u) u 0 m empty h.seat on)) (sym asked.3) refl $
+    -- [what the seat has; the token of κ; self; others]
+    nothing ! $ nothing ! $ fjoin ! $ nothing ! $ fjoin ! $ nothing ! $ fjoin ! $ move ! (2 ∷ 4 ∷ []) $ join ! $ move ! (2 ∷ []) $
+    let h' : Sr.Denot = record h { right = 0; value = empty; steps = on } in let Told : Type 0 = (0 ≡ 0) × (h.id ≡ h.id) × (h.seat ≡ h.seat) × (on ≡ on) in
+    use0 𝓛 (‵ ((SeatData R).own_val (tt, tt) (token ∷ []))) (seat_made R 𝓛) $ fjoin ! $ use0 𝓛 (raw (fact 𝓤 Told)) (fact_i 𝓤 Told (emp 𝓤) (refl, refl, refl, refl)) $
+    returns ! (look_at ! 0 refl) $ free_all ! refl $ keep ! (2 ∷ 3 ∷ 1 ∷ 0 ∷ []) $ by ! (leaves 𝓛 En hs c y token h' (tt, (tt, (tt, tt))) (tt, (tt, (tt, tt)))))))))))))

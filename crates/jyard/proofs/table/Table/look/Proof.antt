@@ -6,7 +6,8 @@ use denote.Param.Laws.{param_laws}
 use Rattle.core.proofs.atomic.Steps.{tail}
 use Rattle.atomic_table.proofs.Walks.{proved, leaves}
 use Rattle.atomic_table.proofs.Calls.{fm, seq_cst, found, finds, loads}
-use Rattle.jyard.specs.Units.{BlockId, age, id_at, place, IsHolding, block_shares, table_shares, seat_owns}
+use Rattle.jyard.specs.Units.{BlockId, age, id_at, place, IsHolding, block_shares, table_shares, seat_has}
+use Rattle.jyard.specs.Logs.{Entry, entry, looking}
 use Rattle.jyard.specs.contracts.table.Table as table
 use Rattle.jyard.specs.contracts.table.Seat as seat
 use Rattle.jyard.proofs.Fields.{pair_of, TableData, table_told, table_opens}
@@ -38,19 +39,19 @@ look_spec 𝓤 𝓛 𝓜 𝓡 wired X LX =
     sets ! (is ! (of_opd ! (load ! (through ! refl (fld ! refl (stop !))) (look_in ! 1 (sub ! 0 refl (whole !))))) (ap ptr_val at)) refl (tt, tt) $
     sets ! (bin ! (get ! refl) (lit ! tt) (record { fits = small })) refl (tt, record { fits = small }) $ sets ! (bin ! (get ! refl) (get ! refl) tt) refl (tt, tt) $
     rewrite ! 1 (λ (ws : List Val). ‵ (cell_at q' D.mir ws b o)) (sym ev) refl $ move ! (1 ∷ 0 ∷ 2 ∷ []) $ shuts ! tt D q' (w, (p, tt)) vs b o $ move ! (3 ∷ 0 ∷ []) $
-    shr_bor-open ! tt (tokens_halve 𝓛 α) (λ s. let Won : ℕ → Fml = steps.Seen 𝓛 R L (place z) z empty wb wo m x in let after : ℕ → Fml = λ n. fsep (flft α s) (Won n) in
-    move ! (4 ∷ 5 ∷ 6 ∷ []) $ opens ! tt Sr b' o' (λ ts. move ! (1 ∷ []) $ fsplit ! $ rewrite ! 1 (λ (u : BlockId). ‵ (seat_owns R (place u) u h.right m x)) asked.2 refl $
+    shr_bor-open ! tt (tokens_halve 𝓛 α) (λ s. let Won : ℕ → Fml = steps.Sight 𝓛 R L (place z) z empty wb wo m x h.seat h.steps in let after : ℕ → Fml = λ n. fsep (flft α s) (Won n) in
+    move ! (4 ∷ 5 ∷ 6 ∷ []) $ opens ! tt Sr b' o' (λ ts. move ! (1 ∷ []) $ fsplit ! $ rewrite ! 1 (λ (u : BlockId). ‵ (seat_has R (place u) u h.right m x h.seat h.steps)) asked.2 refl $
     -- [the field; what the seat has; its cell; three entries; the open borrow; the block's token; self; the invariant; others]
     move ! (9 ∷ 7 ∷ 1 ∷ []) $ use3 𝓛 (raw (𝓣.C _ (vptr wb wo ∷ seq_cst ∷ []) (λ u. mean 𝓛 (found after u))))
-    (via 𝓤 _ (steps.looks 𝓛 R L (place z) z empty wb wo m x h.right (steps.one_or_two h.right asked.1) s) (loads 𝓛 𝓜 𝓡 (code.calls-core::raw_atomic::load 𝓡.env wired) (block_ptr wb wo) after)) $
+    (via 𝓤 _ (steps.looks 𝓛 R L (place z) z empty wb wo m x h.seat h.steps h.right (steps.one_or_two h.right asked.1) s) (loads 𝓛 𝓜 𝓡 (code.calls-core::raw_atomic::load 𝓡.env wired) (block_ptr wb wo) after)) $
     sets ! (agg ! (and_then ! (lit ! tt) (no_more !))) refl (tt, (record { fits = lit< tt }, tt)) $
     Calls-last ! (fm 𝓛 𝓜 𝓡) (found after) (and_then ! (get ! refl) (and_then ! (get ! refl) (no_more !))) (λ u. finds ! after (λ n fits.
     lands_last ! refl (tt, record { fits = fits }) $ exec ! 𝓣.C 𝓣.Λ Ev (tail fn.body) (at_ret Ev Post) $ sets ! (of_opd ! (get ! refl)) refl (tt, record { fits = fits }) $
-    fsplit ! $ move ! (7 ∷ 0 ∷ []) $ obor_close ! tt $ drop ! $ move ! (1 ∷ []) $ fpick ! (λ won. fsplit ! $ fpick ! (λ told. drop ! $ let k : ℕ = steps.rank 𝓛 R L (place z) z empty wb wo won in
-    use1 𝓛 (later (‵ (seat_owns R (place z) z k m x))) (steps.settles 𝓛 R L (place z) z empty wb wo m x won) $ await ! tt $
-    rewrite ! 0 (λ (u : BlockId). ‵ (seat_owns R (place u) u k m x)) (sym asked.2) refl $
-    let h' : Sr.Denot = record h { right = k; reads = h.reads ++ (h.id, n) ∷ [] } in let Told : Type 0 = (h.id ≡ h.id) × (x ≡ x) × (n ≡ 2 → k ≡ 2) × (n ≢ 2 → k ≡ 1) × (2 ≤ n) × (n ≤ 4294967295) × (h'.reads ≡ h'.reads) in
+    fsplit ! $ move ! (7 ∷ 0 ∷ []) $ obor_close ! tt $ drop ! $ move ! (1 ∷ []) $ fpick ! (λ won. fsplit ! $ fpick ! (λ told. drop ! $ let k : ℕ = steps.rank 𝓛 R L (place z) z empty wb wo won in let on : List Entry = h.steps ++ entry looking h.seat n n 0 ∷ [] in
+    use1 𝓛 (later (‵ (seat_has R (place z) z k m x h.seat on))) (steps.has_looked 𝓛 R L (place z) z empty wb wo m x h.seat h.steps n won told) $ await ! tt $
+    rewrite ! 0 (λ (u : BlockId). ‵ (seat_has R (place u) u k m x h.seat on)) (sym asked.2) refl $
+    let h' : Sr.Denot = record h { right = k; steps = on } in let Told : Type 0 = (h.id ≡ h.id) × (x ≡ x) × (n ≡ 2 → k ≡ 2) × (n ≢ 2 → k ≡ 1) × (2 ≤ n) × (n ≤ 4294967295) × (h.seat ≡ h.seat) × (on ≡ on) in
     move ! (2 ∷ 0 ∷ []) $ fjoin ! $ move ! (2 ∷ 0 ∷ 3 ∷ 4 ∷ 5 ∷ []) $ closes ! tt Sr h' ts b' o' $ feq_i ! (List Val) (vptr b' o' ∷ []) (vptr b' o' ∷ []) refl $ fjoin3 ! $
     nothing ! $ nothing ! $ fjoin ! $ move ! (1 ∷ 0 ∷ []) $ fjoin ! $ nothing ! $ fjoin ! $ move ! (1 ∷ 4 ∷ []) $ join ! $ move ! (2 ∷ 0 ∷ []) $ join ! $
-    use0 𝓛 (raw (fact 𝓤 Told)) (fact_i 𝓤 Told (emp 𝓤) (refl, refl, told.0, told.1, told.2, told.3, refl)) $ flt_i ! n (2 ^ 64) fits $ feq_i ! (List Val) (vint w64 n ∷ []) (vint w64 n ∷ []) refl $ fjoin ! $
+    use0 𝓛 (raw (fact 𝓤 Told)) (fact_i 𝓤 Told (emp 𝓤) (refl, refl, told.0, told.1, told.2, told.3, refl, refl)) $ flt_i ! n (2 ^ 64) fits $ feq_i ! (List Val) (vint w64 n ∷ []) (vint w64 n ∷ []) refl $ fjoin ! $
     returns ! (look_at ! 0 refl) $ free_all ! refl $ keep ! (2 ∷ 3 ∷ 0 ∷ 1 ∷ []) $ by ! (leaves 𝓛 En hs c y (vint w64 n) n (tt, (h', (tt, tt))) (tt, (tt, (tt, tt))))))))))))))))

@@ -7,7 +7,8 @@ use denote.Struct.Lending.{Lends-lies}
 use Rattle.core.proofs.atomic.Steps.{tail}
 use Rattle.atomic_table.proofs.Walks.{proved, leaves}
 use Rattle.atomic_table.proofs.Calls.{fm, found, finds, exchanges}
-use Rattle.jyard.specs.Units.{BlockId, age, id_at, place, IsHolding, block_shares, table_shares, seat_owns}
+use Rattle.jyard.specs.Units.{BlockId, age, id_at, place, IsHolding, block_shares, table_shares, seat_has, sits}
+use Rattle.jyard.specs.Logs.{Entry, Sitter, entry, sharing, after_share}
 use Rattle.jyard.specs.contracts.table.Table as table
 use Rattle.jyard.specs.contracts.table.Seat as seat
 use Rattle.jyard.proofs.Fields.{pair_of, token, token_good, found_of, found_good, TableData, SeatData, table_told, table_opens, seat_made}
@@ -42,27 +43,29 @@ share_spec 𝓤 𝓛 𝓜 𝓡 wired X LX =
     sets ! (bin ! (get ! refl) (lit ! tt) (record { fits = small })) refl (tt, record { fits = small }) $ sets ! (bin ! (get ! refl) (get ! refl) tt) refl (tt, tt) $
     rewrite ! 1 (λ (ws : List Val). ‵ (cell_at q' D.mir ws b o)) (sym ev) refl $ move ! (1 ∷ 0 ∷ 2 ∷ []) $ shuts ! tt D q' (w, (p, tt)) vs b o $ move ! (3 ∷ 0 ∷ []) $
     shr_bor-open ! tt (tokens_halve 𝓛 α) (λ s.
-    move ! (4 ∷ 5 ∷ 6 ∷ []) $ opens ! tt Sr b' o' (λ ts. move ! (1 ∷ []) $ fsplit ! $ rewrite ! 1 (λ (u : BlockId). ‵ (seat_owns R (place u) u h.right m x)) asked.5 refl $
+    move ! (4 ∷ 5 ∷ 6 ∷ []) $ opens ! tt Sr b' o' (λ ts. move ! (1 ∷ []) $ fsplit ! $ rewrite ! 1 (λ (u : BlockId). ‵ (seat_has R (place u) u h.right m x h.seat h.steps)) asked.5 refl $ move ! (1 ∷ []) $ fsplit ! $
+    rewrite ! 1 (λ (v : Sitter). ‵ (sits z h.seat v)) (steps.one_unit h.right h.steps asked.1) refl $ move ! (2 ∷ 0 ∷ 3 ∷ 4 ∷ 5 ∷ 6 ∷ 7 ∷ 8 ∷ 9 ∷ 10 ∷ 11 ∷ []) $
     -- [the field; what the seat has; its cell; three entries; the open borrow; the block's token; self; the invariant; others]
     move ! (10 ∷ []) $ fsplit ! $ move ! (3 ∷ 0 ∷ []) $ use2 𝓛 (later (‵ (fex ℕ (λ k. steps.offer_of 𝓛 R L (place z) z empty wb wo x k h.right)) ⊛ ‵ (flft τ qs.1.1.0)))
     (steps.offered 𝓛 R L (place z) z empty wb wo count x m R.lives τ qs.1.1.0 (Lends-lies 𝓛 R R.lives (place z) x (LR.shares 𝓛 x)) le h.right which) $ await ! tt $ split ! $ move ! (1 ∷ 2 ∷ []) $ fjoin ! $ move ! (1 ∷ []) $ fpick ! (λ n'.
-    let Won : ℕ → Fml = steps.Got 𝓛 R L (place z) z empty wb wo count within n' x in let after : ℕ → Fml = λ n. fsep (flft α s) (Won n) in
+    let Won : ℕ → Fml = steps.Pair 𝓛 R L (place z) z empty wb wo count within n' x h.seat h.steps in let after : ℕ → Fml = λ n. fsep (flft α s) (Won n) in
     -- [the offer; others; the field; the seat's cell; three entries; the open borrow; the block's token; self; the invariant]
-    move ! (10 ∷ 8 ∷ 0 ∷ []) $ use3 𝓛 (raw (𝓣.C _ (vptr wb wo ∷ vint w64 count ∷ vint w64 new ∷ []) (λ u. mean 𝓛 (found after u))))
-    (via 𝓤 _ (steps.shares 𝓛 R L (place z) z empty wb wo count within n' x h.right which s) (exchanges 𝓛 𝓜 𝓡 (code.calls-atomic_table::exchange 𝓡.env wired) (block_ptr wb wo) count new are.1.1.1.0.1 fits-new after)) $
+    move ! (0 ∷ 11 ∷ []) $ fjoin ! $ move ! (10 ∷ 8 ∷ 0 ∷ []) $ use3 𝓛 (raw (𝓣.C _ (vptr wb wo ∷ vint w64 count ∷ vint w64 new ∷ []) (λ u. mean 𝓛 (found after u))))
+    (via 𝓤 _ (steps.shares 𝓛 R L (place z) z empty wb wo count within n' x h.seat h.steps h.right which s) (exchanges 𝓛 𝓜 𝓡 (code.calls-atomic_table::exchange 𝓡.env wired) (block_ptr wb wo) count new are.1.1.1.0.1 fits-new after)) $
     sets ! (bin ! (get ! refl) (lit ! tt) (record { fits = fits-new })) refl (tt, record { fits = fits-new }) $
     Calls-last ! (fm 𝓛 𝓜 𝓡) (found after) (and_then ! (get ! refl) (and_then ! (get ! refl) (and_then ! (get ! refl) (no_more !)))) (λ u. finds ! after (λ n fits.
     lands_last ! refl (tt, record { fits = fits }) $ exec ! 𝓣.C 𝓣.Λ Ev (tail fn.body) (at_ret Ev Post) $ sets ! (of_opd ! (get ! refl)) refl (tt, record { fits = fits }) $
     sets ! (agg ! (no_more !)) refl (tt, tt) $ sets ! (agg ! (and_then ! (get ! refl) (no_more !))) refl token_good $
     sets ! (agg ! (and_then ! (get ! refl) (and_then ! (get ! refl) (no_more !)))) refl (found_good n fits) $
-    fsplit ! $ move ! (8 ∷ 0 ∷ []) $ obor_close ! tt $ drop ! $ move ! (1 ∷ []) $ fsplit ! $ rewrite ! 0 (λ (u : BlockId). ‵ (seat_owns R (place u) u 1 n' x)) (sym asked.5) refl $
+    fsplit ! $ move ! (8 ∷ 0 ∷ []) $ obor_close ! tt $ drop ! $ move ! (1 ∷ []) $ fpick ! (λ kj. let k : ℕ = kj.0 in let j : ℕ = kj.1 in fsplit ! $ fpick ! (λ told. drop ! $ fsplit ! $ let on : List Entry = h.steps ++ entry sharing h.seat n (after_share count n) j ∷ [] in
+    rewrite ! 0 (λ (u : BlockId). ‵ (seat_has R (place u) u 1 n' x h.seat on)) (sym asked.5) refl $
     -- [the seat's part; what is new; the token of κ; others; the field; the seat's cell; three entries; self]
-    let h' : Sr.Denot = record h { right = 1; round = n'; reads = h.reads ++ (h.id, n) ∷ [] } in move ! (4 ∷ 0 ∷ []) $ fjoin ! $ move ! (4 ∷ 0 ∷ 5 ∷ 6 ∷ 7 ∷ []) $ closes ! tt Sr h' ts b' o' $ feq_i ! (List Val) (vptr b' o' ∷ []) (vptr b' o' ∷ []) refl $ fjoin3 ! $
-    nothing ! $ nothing ! $ fjoin ! $ nothing ! $ fjoin ! $ move ! (1 ∷ 0 ∷ []) $ fjoin ! $ nothing ! $ fjoin ! $ move ! (1 ∷ 4 ∷ []) $ join ! $ move ! (3 ∷ 0 ∷ []) $ join ! $ move ! (2 ∷ []) $ fpick ! (λ k. fsplit ! $ fpick ! (λ told. drop ! $
-    rewrite ! 0 (λ (u : BlockId). ‵ (seat_owns R (place u) u k n' x)) (sym asked.5) refl $ let hn : Sr.Denot = record { marker = record {}; id = h.id; right = k; round = n'; value = x; reads = [] } in let r : Val = found_of n in
-    let rs : List (BlockId × ℕ) = h.reads ++ (h.id, n) ∷ [] in let none : List (BlockId × ℕ) = [] in let A₁ : Type 0 = (h.id ≡ h.id) × (x ≡ x) × (1 ≡ 1) × (rs ≡ rs) × (2 ≤ n) × (n ≤ 4294967295) in let A₂ : Type 0 = (n ≡ count → (k ≡ 1) × (x ≡ x)) × (n ≢ count → k ≡ 0) × (h.id ≡ h.id) × (none ≡ none) in
+    let h' : Sr.Denot = record h { right = 1; round = n'; steps = on } in move ! (4 ∷ 0 ∷ []) $ fjoin ! $ move ! (4 ∷ 0 ∷ 5 ∷ 6 ∷ 7 ∷ []) $ closes ! tt Sr h' ts b' o' $ feq_i ! (List Val) (vptr b' o' ∷ []) (vptr b' o' ∷ []) refl $ fjoin3 ! $
+    nothing ! $ nothing ! $ fjoin ! $ nothing ! $ fjoin ! $ move ! (1 ∷ 0 ∷ []) $ fjoin ! $ nothing ! $ fjoin ! $ move ! (1 ∷ 4 ∷ []) $ join ! $ move ! (3 ∷ 0 ∷ []) $ join ! $ move ! (2 ∷ []) $
+    rewrite ! 0 (λ (u : BlockId). ‵ (seat_has R (place u) u k n' x j [])) (sym asked.5) refl $ let hn : Sr.Denot = record { marker = record {}; id = h.id; right = k; round = n'; value = x; seat = j; steps = [] } in let r : Val = found_of n in
+    let none : List Entry = [] in let A₁ : Type 0 = (h.id ≡ h.id) × (x ≡ x) × (1 ≡ 1) × (2 ≤ n) × (n ≤ 4294967295) × (h.seat ≡ h.seat) × (on ≡ on) in let A₂ : Type 0 = (n ≡ count → (k ≡ 1) × (x ≡ x)) × (n ≢ count → k ≡ 0) × (h.id ≡ h.id) × (none ≡ none) in
     use0 𝓛 (‵ ((SeatData R).own_val (tt, tt) (token ∷ []))) (seat_made R 𝓛) $ fjoin ! $ nothing ! $ flt_i ! n (2 ^ 64) fits $ feq_i ! (List Val) (vint w64 n ∷ []) (vint w64 n ∷ []) refl $ fjoin ! $
     move ! (0 ∷ 2 ∷ 1 ∷ []) $ fjoin3 ! $ feq_i ! (List Val) (r ∷ []) (r ∷ []) refl $ fjoin ! $
     fpack ! (Valss (u64 ∷ Sr ∷ [])) (λ uss. fsep (feq (List Val) (r ∷ []) (vstruct (of_list (uss.0 ++ (uss.1.0 ++ []))) ∷ [])) (owns (u64 ∷ Sr ∷ []) (n, (hn, tt)) uss)) (vint w64 n ∷ [], (token ∷ [], tt)) $
-    use0 𝓛 (raw (fact 𝓤 A₂)) (fact_i 𝓤 A₂ (emp 𝓤) ((λ i. (told.0 i, refl)), told.1, refl, refl)) $ use0 𝓛 (raw (fact 𝓤 A₁)) (fact_i 𝓤 A₁ (emp 𝓤) (refl, refl, refl, refl, told.2, told.3)) $ join ! $
+    use0 𝓛 (raw (fact 𝓤 A₂)) (fact_i 𝓤 A₂ (emp 𝓤) ((λ i. (told.0 i, refl)), told.1, refl, refl)) $ use0 𝓛 (raw (fact 𝓤 A₁)) (fact_i 𝓤 A₁ (emp 𝓤) (refl, refl, refl, told.2, told.3, refl, refl)) $ join ! $
     returns ! (look_at ! 0 refl) $ free_all ! refl $ keep ! (2 ∷ 3 ∷ 1 ∷ 0 ∷ []) $ by ! (leaves 𝓛 En hs c y r (n, hn) (tt, (h', (tt, (tt, tt)))) (tt, (tt, (tt, (tt, tt)))))))))))))))))))

@@ -1,18 +1,21 @@
 -- `tally` is one load, beside which the seats that are brought together have no more units than the word counts.
-use Rattle.atomic_table.proofs.Names.{◌≡◌, List, [], ◌∷◌, ℕ, ◌^◌, ◌++◌, refl, sym, ap, lit<, w64, a_type, named, Val, vint, vptr, vstruct, of_list, inst_fn, SProp, emp, via, Lft, Share, Fml, ftrue, fsep, flft, ‵, raw, ◌⊛◌, mean, at_ret, ◌$◌, ◌∵◌, !, qed, by, move, keep, drop, split, join, fsplit, fsplit3, fjoin, fjoin3, fpick, fpack, use0, use1, use3, rewrite, feq_i, flt_i, stop, fld, load, lit, of_opd, no_more, and_then, first, blocks, exec, Calls-last, returns, enter, alloc_all, pass_all, free_all, look_at, get, through, sets, lands_last, is, env, agg, sub, whole, look_in, tables, yes, no, RattleType, owns, Valss, types_at, plain, Ptr, block_ptr, ptr_val, nothing, heard, param, layouts, Stays, stay_dropped, walk_of, Goes-dropped, fact, fact_i, Is, shows, cell_at, peeks, block_of, count_of, at_block, RefOf, u64, shr_vals, shr_Tells, unhide, hidden_shr, looks, shuts, lent_out, shr_bor-open, obor_close, tokens_halve, ◌*◌, ◌+◌, ◌<◌, length, arith, bin, usize, uint_vals, uint_Tells, mut_vals, mut_Tells, opens, closes, stay_ref, Goes-ref, split3, ◌≤◌}
+use Rattle.atomic_table.proofs.Names.{◌≡◌, List, [], ◌∷◌, ℕ, ◌^◌, ◌++◌, refl, sym, ap, lit<, w64, a_type, named, Val, vint, vptr, vstruct, of_list, inst_fn, SProp, emp, via, Lft, Share, Fml, ftrue, fsep, flft, ‵, raw, ◌⊛◌, mean, at_ret, ◌$◌, ◌∵◌, !, qed, by, move, keep, drop, split, join, fsplit, fsplit3, fjoin, fjoin3, fpick, fpack, use0, use1, use2, use3, rewrite, feq_i, flt_i, stop, fld, load, lit, of_opd, no_more, and_then, first, blocks, exec, Calls-last, returns, enter, alloc_all, pass_all, free_all, look_at, get, through, sets, lands_last, is, env, agg, sub, whole, look_in, tables, yes, no, RattleType, owns, Valss, types_at, plain, Ptr, block_ptr, ptr_val, nothing, heard, param, layouts, Stays, stay_dropped, walk_of, Goes-dropped, fact, fact_i, Is, shows, cell_at, peeks, block_of, count_of, at_block, RefOf, u64, shr_vals, shr_Tells, unhide, hidden_shr, looks, shuts, lent_out, shr_bor-open, obor_close, tokens_halve, ◌*◌, ◌+◌, ◌<◌, length, arith, bin, usize, uint_vals, uint_Tells, mut_vals, mut_Tells, opens, closes, stay_ref, Goes-ref, split3, ◌≤◌}
 use base.Fml.{feq, fhide}
 use denote.Param.Laws.{param_laws}
 use Rattle.core.proofs.atomic.Steps.{tail}
 use Rattle.atomic_table.proofs.Walks.{proved, leaves}
 use Rattle.atomic_table.proofs.Calls.{fm, seq_cst, found, finds, loads}
 use Rattle.jyard.specs.Counts.{block_count}
-use Rattle.jyard.specs.Units.{BlockId, age, id_at, block_shares, table_shares, SeatOf, units_in, AllHere}
+use Rattle.jyard.specs.Units.{BlockId, age, id_at, block_shares, table_shares, spents_own, SeatOf, units_in, AllHere, IsLogWith}
+use Rattle.jyard.specs.Logs.{Entry, entry, counting}
+use Rattle.jyard.specs.Taken.{HasCounted, one_step}
+use Rattle.jyard.proofs.Spents.{spents_more}
 use Rattle.jyard.specs.contracts.table.Table as table
 use Rattle.jyard.specs.contracts.seats.Seats as seats
 use Rattle.jyard.specs.contracts.view.View as view
 use Rattle.jyard.proofs.Fields.{pair_of, token, token_good, found_of, found_good, TableData, SeatsData, table_told, table_opens, seats_made, seats_told}
 use Rattle.jyard.proofs.Laws.{shown_at}
-use Rattle.jyard.proofs.Tally.{Tallied, tallies}
+use Rattle.jyard.proofs.Tally.{Told, tallies}
 use Rattle.jyard.specs.contracts.table.Table.tally.{ended, clauses}
 use Rattle.jyard.specs.contracts.table.Table.tally.Key.{name as #self}
 use Rattle.jyard.proofs.table.Table.tally.Statement.{statement}
@@ -40,20 +43,21 @@ tally_spec 𝓤 𝓛 𝓜 𝓡 wired X LX =
     sets ! (is ! (of_opd ! (load ! (through ! refl (fld ! refl (stop !))) (look_in ! 1 (sub ! 0 refl (whole !))))) (ap ptr_val at)) refl (tt, tt) $
     sets ! (bin ! (get ! refl) (lit ! tt) (record { fits = small })) refl (tt, record { fits = small }) $ sets ! (bin ! (get ! refl) (get ! refl) tt) refl (tt, tt) $
     rewrite ! 1 (λ (ws : List Val). ‵ (cell_at q' D.mir ws b o)) (sym ev) refl $ move ! (1 ∷ 0 ∷ 2 ∷ []) $ shuts ! tt D q' (w, (p, tt)) vs b o $ move ! (3 ∷ 0 ∷ []) $
-    shr_bor-open ! tt (tokens_halve 𝓛 α) (λ s. let Won : ℕ → Fml = Tallied 𝓛 R L z empty wb wo ss asked.1 in let after : ℕ → Fml = λ n. fsep (flft α s) (Won n) in move ! (3 ∷ 1 ∷ 8 ∷ []) $
+    shr_bor-open ! tt (tokens_halve 𝓛 α) (λ s. let Won : ℕ → Fml = Told 𝓛 R L z empty wb wo ss asked.1 in let after : ℕ → Fml = λ n. fsep (flft α s) (Won n) in move ! (3 ∷ 1 ∷ 8 ∷ []) $
     use3 𝓛 (raw (𝓣.C _ (vptr wb wo ∷ seq_cst ∷ []) (λ u. mean 𝓛 (found after u))))
     (via 𝓤 _ (tallies 𝓛 R L z empty wb wo ss asked.1 s) (loads 𝓛 𝓜 𝓡 (code.calls-core::raw_atomic::load 𝓡.env wired) (block_ptr wb wo) after)) $
     sets ! (agg ! (and_then ! (lit ! tt) (no_more !))) refl (tt, (record { fits = lit< tt }, tt)) $
     Calls-last ! (fm 𝓛 𝓜 𝓡) (found after) (and_then ! (get ! refl) (and_then ! (get ! refl) (no_more !))) (λ u. finds ! after (λ n fits.
     lands_last ! refl (tt, record { fits = fits }) $ exec ! 𝓣.C 𝓣.Λ Ev (tail fn.body) (at_ret Ev Post) $ sets ! (of_opd ! (get ! refl)) refl (tt, record { fits = fits }) $
-    sets ! (agg ! (and_then ! (get ! refl) (and_then ! (get ! refl) (no_more !)))) refl (found_good n fits) $
-    fsplit ! $ move ! (2 ∷ 0 ∷ []) $ obor_close ! tt $ drop ! $ move ! (1 ∷ []) $ fsplit ! $ fpick ! (λ low. drop ! $
-    -- [what the seats have; the token of κ; self; the view; its token; others]
-    move ! (3 ∷ 4 ∷ 5 ∷ []) $ let v' : Vr.Denot = record v { reads = v.reads ++ (z, n) ∷ [] } in opens ! tt Vr b' o' (λ ts. closes ! tt Vr v' ts b' o' $ feq_i ! (List Val) (vptr b' o' ∷ []) (vptr b' o' ∷ []) refl $ fjoin3 ! $
+    sets ! (of_opd ! (get ! refl)) refl token_good $ sets ! (agg ! (and_then ! (get ! refl) (and_then ! (get ! refl) (no_more !)))) refl (found_good n fits) $
+    fsplit ! $ move ! (2 ∷ 0 ∷ []) $ obor_close ! tt $ drop ! $ move ! (1 ∷ []) $ fsplit ! $ fpick ! (λ low. drop ! $ fsplit ! $ move ! (1 ∷ []) $ fpick ! (λ j. move ! (1 ∷ []) $
+    -- [what the seats have; the pass's seat; the token of κ; self; the view; its token; others]
+    move ! (4 ∷ 5 ∷ 6 ∷ []) $ let v' : Vr.Denot = record v { spent = v.spent ++ one_step z (entry counting j n n 0) ∷ [] } in opens ! tt Vr b' o' (λ ts. move ! (1 ∷ []) $ fsplit ! $ move ! (1 ∷ 7 ∷ []) $
+    use2 𝓛 (‵ (spents_own v'.spent)) (spents_more 𝓛 v.spent z j (entry counting j n n 0 ∷ [])) $ move ! (1 ∷ 0 ∷ []) $ fjoin ! $ move ! (1 ∷ 0 ∷ []) $ closes ! tt Vr v' ts b' o' $ feq_i ! (List Val) (vptr b' o' ∷ []) (vptr b' o' ∷ []) refl $ fjoin3 ! $
     nothing ! $ move ! (1 ∷ 0 ∷ []) $ fjoin ! $ nothing ! $ fjoin ! $ nothing ! $ fjoin ! $ nothing ! $ fjoin ! $ move ! (1 ∷ 5 ∷ []) $ join ! $ move ! (3 ∷ 0 ∷ []) $ join ! $ move ! (2 ∷ []) $
-    let r : Val = found_of n in let A₁ : Type 0 = (v.yard ≡ v.yard) × (v'.reads ≡ v'.reads) in let A₂ : Type 0 = (ss ≡ ss) × (units_in ss ≤ block_count n) in
+    let r : Val = found_of n in let A₁ : Type 0 = (v.yard ≡ v.yard) × HasCounted v.spent v'.spent z n in let A₂ : Type 0 = (ss ≡ ss) × (units_in ss ≤ block_count n) × ((l : List Entry) × IsLogWith ss n l) in
     use0 𝓛 (‵ ((SeatsData R).own_val (tt, tt) (token ∷ []))) (seats_made R 𝓛) $ fjoin ! $ nothing ! $ flt_i ! n (2 ^ 64) fits $ feq_i ! (List Val) (vint w64 n ∷ []) (vint w64 n ∷ []) refl $ fjoin ! $
     move ! (0 ∷ 2 ∷ 1 ∷ []) $ fjoin3 ! $ feq_i ! (List Val) (r ∷ []) (r ∷ []) refl $ fjoin ! $
     fpack ! (Valss (u64 ∷ Sr ∷ [])) (λ uss. fsep (feq (List Val) (r ∷ []) (vstruct (of_list (uss.0 ++ (uss.1.0 ++ []))) ∷ [])) (owns (u64 ∷ Sr ∷ []) (n, (g, tt)) uss)) (vint w64 n ∷ [], (token ∷ [], tt)) $
-    use0 𝓛 (raw (fact 𝓤 A₂)) (fact_i 𝓤 A₂ (emp 𝓤) (refl, low)) $ use0 𝓛 (raw (fact 𝓤 A₁)) (fact_i 𝓤 A₁ (emp 𝓤) (refl, refl)) $ join ! $
-    returns ! (look_at ! 0 refl) $ free_all ! refl $ keep ! (2 ∷ 3 ∷ 1 ∷ 0 ∷ []) $ by ! (leaves 𝓛 En hs c y r (n, g) (tt, (tt, (tt, (v', tt)))) (tt, (tt, (tt, (tt, tt))))))))))))))))
+    use0 𝓛 (raw (fact 𝓤 A₂)) (fact_i 𝓤 A₂ (emp 𝓤) (refl, low.0, low.1)) $ use0 𝓛 (raw (fact 𝓤 A₁)) (fact_i 𝓤 A₁ (emp 𝓤) (refl, record { seat = j; added = refl })) $ join ! $
+    returns ! (look_at ! 0 refl) $ free_all ! refl $ keep ! (2 ∷ 3 ∷ 1 ∷ 0 ∷ []) $ by ! (leaves 𝓛 En hs c y r (n, g) (tt, (tt, (tt, (v', tt)))) (tt, (tt, (tt, (tt, tt)))))))))))))))))

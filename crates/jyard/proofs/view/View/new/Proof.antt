@@ -1,7 +1,7 @@
 -- A view of the table's yard, without reads.
 use Rattle.atomic_table.proofs.Names.{◌≡◌, List, [], ◌∷◌, ℕ, refl, a_type, named, Val, vptr, inst_fn, SProp, emp, ‵, raw, ◌⊛◌, ◌$◌, ◌∵◌, !, qed, by, keep, split, fjoin, use0, no_more, and_then, agg, returns, enter, alloc_all, pass_all, free_all, look_at, get, sets, tables, yes, RattleType, owns, types_at, plain, nothing, alive, param, layouts, RefOf, shr_vals, shr_Tells, Stays, stay_dropped, walk_of, Goes-dropped, fact, fact_i}
 use Rattle.atomic_table.proofs.Walks.{proved, leaves}
-use Rattle.jyard.specs.Units.{BlockId}
+use Rattle.jyard.specs.Units.{Spent}
 use Rattle.jyard.specs.contracts.table.Table as table
 use Rattle.jyard.specs.contracts.view.View as view
 use Rattle.jyard.proofs.Fields.{token, token_good, ViewData, view_made}
@@ -17,7 +17,7 @@ new_spec 𝓤 𝓛 𝓜 𝓡 wired X LX =
     let lent = RefOf (0 ∷ []) tt (plain (λ _. Row)) (λ _. tt) in let hs : Stays En.signature.params En.kept = (stay_dropped lent yes, tt) in
     proved 𝓛 En hs c 𝓜 𝓡 (Goes-dropped 𝓛 2 lent yes (λ κs x f. refl), tt) (#self inst) fn (code.unfolded 𝓤 H 𝓜 𝓡 wired (X, tt))
     (λ κs. (shr_vals, tt)) (λ κs. (shr_Tells (named 0) κs.0 Row, tt)) (λ κs qs bounds a gh are.
-    let b : ℕ = a.0.ref_ptr.0 in let o : ℕ = a.0.ref_ptr.1 in let none : List (BlockId × ℕ) = [] in let v : Vr.Denot = record { marker = record {}; yard = a.0.now.ids; reads = none } in let Told : Type 0 = (v.yard ≡ v.yard) × (v.reads ≡ none) in
+    let b : ℕ = a.0.ref_ptr.0 in let o : ℕ = a.0.ref_ptr.1 in let none : List Spent = [] in let v : Vr.Denot = record { marker = record {}; yard = a.0.now.ids; spent = none } in let Told : Type 0 = (v.yard ≡ v.yard) × (v.spent ≡ none) in
     let y : (walk_of 𝓛 En hs c).Ghost = ((κs, qs, bounds, a, (vptr b o ∷ [], tt)), gh) in let Post : Val → SProp 𝓤 = (walk_of 𝓛 En hs c).post y in
     qed 𝓛 ((raw (alive 𝓛 En.signature κs qs) ⊛ ‵ (owns (types_at En.signature.params κs) a y.0.4)) ∷ raw ((c κs a).requires gh) ∷ []) ∵
     split ! $ keep ! (0 ∷ []) $ nothing ! $ use0 𝓛 (‵ (ViewData.own_val (tt, tt) (token ∷ []))) (view_made 𝓛) $ fjoin ! $

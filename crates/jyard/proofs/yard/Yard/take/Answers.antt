@@ -33,5 +33,5 @@ loop-passed-preserved g c =
       next.0 ∙ ap (λ (m : ℕ). (c.loop-passed.block + 1) % m) inv.2 ∙ further c.loop-passed.block c.args.pass.now.next c.loop-passed.passed n inv.6,
       c.try_take.ensures.view ∙ inv.7,
       inv.8,
-      one_more_taken (blocks_of c.args.self.now) c.args.pass.now.next c.loop-passed.passed c.loop-passed.block c.args.pass.now.view.reads c.loop-passed.pass.view.reads c.try_take.new.view.reads inv.6 inv.9 got.1,
+      one_more_taken (blocks_of c.args.self.now) c.args.pass.now.next c.loop-passed.passed c.loop-passed.block c.args.pass.now.view.spent c.loop-passed.pass.view.spent c.try_take.new.view.spent inv.6 inv.9 got.1,
     )
