@@ -18,8 +18,12 @@ for script in examples/*.ijs; do
     ends "$script" 0 ""
     cmp -s "$work/out" "${script%.ijs}.out" || { echo "$script: other prints"; failed=1; }
 done
-./jconsole --help < examples/first.ijs > "$work/out" 2> "$work/err"; status=$?
+./jconsole --nothing < examples/first.ijs > "$work/out" 2> "$work/err"; status=$?
 ends "a word" 1 "jconsole: usage"
+for word in --help examples/first.ijs; do
+    ./jconsole "$word" < /dev/null > "$work/out" 2> "$work/err"; status=$?
+    grep -q '^./build ' "$work/err" && [ "$(tail -n 1 "$work/err")" = "jconsole: usage" ] && [ "$status" = 1 ] || { echo "$word: usage isn't told"; failed=1; }
+done
 ./jconsole < / > "$work/out" 2> "$work/err"; status=$?
 ends "a script that can't be read" 2 "jconsole: read fault"
 ./jconsole < examples/first.ijs 2> "$work/err" > /dev/full; status=$?
