@@ -19,7 +19,7 @@ struct Session {
     status: Status,
 }
 
-fn session(alloc: Global, script: &[u8]) -> Result<Session, NoMemory> {
+fn evaluate(alloc: Global, script: &[u8]) -> Result<Session, NoMemory> {
     let mut source = MemSource::new(Vec::from_slice(alloc, script)?, 4_096, Vec::new(alloc));
     let mut sink = MemSink::new(alloc, Vec::new(alloc));
     let solo = Solo::new(alloc, 0)?;
@@ -34,7 +34,7 @@ fn session(alloc: Global, script: &[u8]) -> Result<Session, NoMemory> {
 
 fn main(rt: HostRuntime) -> ExitCode {
     let script = b"price =: 3 4\nprice * 10\nprice + 1 2 3\n";
-    match session(rt.alloc(), script) {
+    match evaluate(rt.alloc(), script) {
         Ok(session) => {
             let sent = StdSink::new(rt.stdout()).write(&session.prints);
             ExitCode::from((sent != Sent::All || session.status != Status::Done) as u8)
