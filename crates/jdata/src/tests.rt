@@ -1,7 +1,6 @@
 use crate::{
     Axes, BadTree, Bytes, Cell, CellList, Fault, IntList, Kind, Leaves, Name, NameList, NoMemory,
-    Path, Primitive, PyxId, Tree, Trouble, copy_range, filled, gather, product_of, product_within,
-    push_fills,
+    Path, Primitive, PyxId, Tree, Trouble,
 };
 use std::alloc::Global;
 use std::test::Fail;
@@ -338,66 +337,5 @@ fn opening_passes_no_limit(rt: HostRuntime) -> Result<(), Fail> {
     let tree = nested(alloc, pyx(alloc, 1)?, 63)?;
     assert!(rt; tree.first_pyx() == Some(named(1)));
     assert_eq!(rt; tree.open_first(pyx(alloc, 2)?).err(), Some(Fault::Limit));
-    Ok(())
-}
-
-#[test]
-fn ranges_are_gathered(rt: HostRuntime) -> Result<(), Fail> {
-    let alloc = rt.alloc();
-    let tree = numbers(alloc, &[6], &[10, 11, 12, 13, 14, 15])??;
-    match gather(alloc, tree.leaf(), &[4, 0, 4], 2)? {
-        Leaves::Int(atoms) => {
-            assert!(rt; atoms.items() == [14, 15, 10, 11, 14, 15].as_slice());
-        }
-        _ => assert!(rt; false, "another kind"),
-    }
-    let word = text(alloc, &[4], b"abcd")??;
-    match copy_range(alloc, word.leaf(), 1, 2)? {
-        Leaves::Char(atoms) => assert!(rt; atoms.items() == b"bc".as_slice()),
-        _ => assert!(rt; false, "another kind"),
-    }
-    let boxes = waiting(alloc)?;
-    let two = gather(alloc, boxes.leaf(), &[2, 0], 1)?;
-    assert_eq!(rt; two.leaf().len(), 2);
-    assert_eq!(rt;
-        Tree::limited(axes(alloc, &[2])?, two)?.first_pyx(),
-        Some(named(2))
-    );
-    Ok(())
-}
-
-#[test]
-fn atoms_are_appended(rt: HostRuntime) -> Result<(), Fail> {
-    let alloc = rt.alloc();
-    let mut atoms = filled(alloc, Kind::Int, 2)?;
-    let mut list = IntList::of(Vec::from_slice(alloc, &[7])?);
-    list.push(8)?;
-    assert_eq!(rt; atoms.kind(), Kind::Int);
-    atoms.append(Leaves::Int(list))?;
-    assert_eq!(rt; atoms.len(), 4);
-    let mut blanks: Vec<u8> = Vec::new(alloc);
-    push_fills(alloc, &mut blanks, 3)?;
-    assert!(rt; blanks.as_slice() == b"   ".as_slice());
-    assert_eq!(rt; filled(alloc, Kind::Boxed, 1)?.len(), 1);
-    Ok(())
-}
-
-#[test]
-fn products_keep_within_the_limit(rt: HostRuntime) {
-    assert_eq!(rt; product_of(&[2, 3, 4]), 24);
-    assert_eq!(rt; product_of(&[2, 0, 4]), 0);
-    assert_eq!(rt; product_within(&[0, 134_217_728]), Some(0));
-    assert_eq!(rt; product_within(&[2, 134_217_728]), None);
-}
-
-#[test]
-fn a_limited_array_is_within_the_limits(rt: HostRuntime) -> Result<(), Fail> {
-    let alloc = rt.alloc();
-    let ones = [1; 64];
-    let atoms = Leaves::Int(IntList::of(Vec::from_slice(alloc, &[9])?));
-    assert_eq!(rt;
-        Tree::limited(axes(alloc, &ones)?, atoms).err(),
-        Some(Fault::Limit)
-    );
     Ok(())
 }
