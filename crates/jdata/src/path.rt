@@ -1,4 +1,4 @@
-ghost use Rattle.std.specs.Prelude.{◌≡◌, []};
+ghost use Rattle.std.specs.Prelude.{◌≡◌, ◌≤◌, [], ◌∷◌, ◌++◌, length, IfSome, IsNone, ◌↔◌};
 
 use std::marker::Model;
 
@@ -42,6 +42,30 @@ impl Path {
         ensures { result.now ≡ self.now }
     {
         &self.numbers[..self.depth]
+    }
+
+    /// There are at most 4 numbers.
+    pub fn known(&self)
+        ensures { length self.now ≤ 4 }
+    {
+        let _depth = self.depth;
+    }
+
+    /// The path of the task that this activity starts with this number; none exactly where it has
+    /// 4 numbers already.
+    pub fn child(self, number: u32) -> Option<Path>
+        ensures some { IfSome result (λ path. path ≡ self ++ number ∷ []) }
+        ensures none { IsNone result ↔ (length self ≡ 4) }
+    {
+        if self.depth == 4 {
+            return None;
+        }
+        let mut numbers = self.numbers;
+        numbers[self.depth] = number;
+        Some(Path {
+            numbers,
+            depth: self.depth + 1,
+        })
     }
 }
 

@@ -229,7 +229,22 @@ fn names_keep_their_bytes(rt: HostRuntime) -> Result<(), Fail> {
     assert!(rt; name.into_items().as_slice() == b"price".as_slice());
     let names = NameList::of(Vec::new(alloc));
     assert_eq!(rt; names.items().len(), 0);
-    assert_eq!(rt; Path::main().parts().len(), 0);
+    Ok(())
+}
+
+#[test]
+fn paths_have_at_most_four_numbers(rt: HostRuntime) -> Result<(), Fail> {
+    let mut path = Path::main();
+    assert_eq!(rt; path.parts().len(), 0);
+    for number in [3, 1, 4, 1] {
+        let Some(child) = path.child(number) else {
+            return Err(Fail::from("no child"));
+        };
+        path = child;
+    }
+    path.known();
+    assert!(rt; path.parts() == [3, 1, 4, 1].as_slice());
+    assert!(rt; path.child(5).is_none());
     Ok(())
 }
 
