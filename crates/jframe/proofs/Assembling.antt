@@ -61,7 +61,7 @@ same_means sort.Char sort.Boxed e = cc
 same_means sort.Boxed sort.Int e = cc
 same_means sort.Boxed sort.Char e = cc
 
-abbrev are_of : Kind → List Noun → Bool
+abbrev pub are_of : Kind → List Noun → Bool
 are_of k vs = list_all (λ v. same_kind (kind v) k) (filter has_atoms vs)
 
 and_first : (a b : Bool) → a && b ≡ true → a ≡ true
@@ -80,18 +80,18 @@ kind_here : (b : Bool) (k : Kind) (v : Noun) (rest : List Noun) → has_atoms v 
 kind_here true k v rest e h = (inl (same_means (kind v) k (and_first _ _ h)), and_second (same_kind (kind v) k) _ h)
 kind_here false k v rest e h = (inr (no_atoms (atoms v) e), h)
 
-kind_at : (k : Kind) (vs : List Noun) (i : ℕ) (d : Noun) → i < length vs → are_of k vs ≡ true → (kind (get_or vs i d) ≡ k) ⊎ (atoms (get_or vs i d) ≡ [])
+pub kind_at : (k : Kind) (vs : List Noun) (i : ℕ) (d : Noun) → i < length vs → are_of k vs ≡ true → (kind (get_or vs i d) ≡ k) ⊎ (atoms (get_or vs i d) ≡ [])
 kind_at k [] i d below h = absurd (omega arith)
 kind_at k (v ∷ vs) zero d below h = (kind_here (has_atoms v) k v (filter has_atoms vs) refl h).0
 kind_at k (v ∷ vs) (suc i) d below h = kind_at k vs i d (omega arith) (kind_here (has_atoms v) k v (filter has_atoms vs) refl h).1
 
 -- each result fits in the common shape
-greatest_at : (f : Noun → ℕ) (vs : List Noun) (i : ℕ) (d : Noun) → i < length vs → f (get_or vs i d) ≤ greatest (map f vs)
+pub greatest_at : (f : Noun → ℕ) (vs : List Noun) (i : ℕ) (d : Noun) → i < length vs → f (get_or vs i d) ≤ greatest (map f vs)
 greatest_at f [] i d below = absurd (omega arith)
 greatest_at f (v ∷ vs) zero d below = omega arith
 greatest_at f (v ∷ vs) (suc i) d below = let rest = greatest_at f vs i d (omega arith) in omega (arith, rest)
 
-fits_by_axis : (part whole : List ℕ) → length part ≡ length whole → ((a : ℕ) → a < length whole → get_or part a 1 ≤ get_or whole a 1) → FitsIn part whole
+pub fits_by_axis : (part whole : List ℕ) → length part ≡ length whole → ((a : ℕ) → a < length whole → get_or part a 1 ≤ get_or whole a 1) → FitsIn part whole
 fits_by_axis [] [] long each = tt
 fits_by_axis [] (n ∷ ns) long each = absurd (omega arith)
 fits_by_axis (m ∷ ms) [] long each = absurd (omega arith)

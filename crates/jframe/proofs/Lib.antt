@@ -2,6 +2,7 @@ pub mod Alike
 pub mod Applying
 pub mod Arrays
 pub mod Assembling
+pub mod Blocks
 pub mod Firsts
 pub mod Joined
 pub mod Pairing

@@ -121,7 +121,7 @@ fn atoms_of_all(
 }
 
 /// The array of these atoms; its only fault is Limit.
-fn limited(axes: Vec<u64>, atoms: Leaves) -> Result<Tree, Trouble>
+pub fn limited(axes: Vec<u64>, atoms: Leaves) -> Result<Tree, Trouble>
     requires { length (atoms_of atoms) ≡ product axes.items }
     ensures { Answers (in_limits (noun_of axes.items atoms)) result }
 {

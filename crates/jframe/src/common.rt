@@ -19,7 +19,7 @@ pub fn common_axes(alloc: Global, results: &[Tree]) -> Result<Vec<u64>, NoMemory
     Ok(axes)
 }
 
-fn greatest_rank(results: &[Tree]) -> usize
+pub fn greatest_rank(results: &[Tree]) -> usize
     ensures { result ≡ whole.greatest_rank results.now }
 {
     let mut rank = 0;
@@ -40,7 +40,7 @@ fn greatest_on(results: &[Tree], rank: usize, axis: usize) -> u64
 }
 
 /// The length on an axis, with leading axes of 1 up to a rank.
-fn raised_axis(axes: &[u64], rank: usize, axis: usize) -> u64
+pub fn raised_axis(axes: &[u64], rank: usize, axis: usize) -> u64
     ensures { result ≡ get_or (whole.raised rank axes.now) axis 1 }
 {
     let leading = rank.saturating_sub(axes.len());

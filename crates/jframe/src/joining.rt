@@ -35,7 +35,7 @@ pub fn join<T: Item>(
     Ok(T::leaves_of(items))
 }
 
-fn add<T: Item>(
+pub fn add<T: Item>(
     alloc: Global,
     whole: &[u64],
     tree: Tree,

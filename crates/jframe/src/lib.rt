@@ -3,6 +3,9 @@
 
 mod assembly;
 mod common;
+mod items;
+#[cfg(test)]
+mod items_tests;
 mod joining;
 mod kinds;
 mod padding;
@@ -15,6 +18,8 @@ mod results;
 mod tests;
 
 pub use assembly::assemble;
+pub use items::join_arrays;
+pub use kinds::common_kind;
 pub use pairs::{WholeDyad, at_ranks};
 pub use parted::Cells;
 pub use parting::{cells, fill_cell};
