@@ -1,0 +1,7 @@
+pub mod Cells
+pub mod Choices
+pub mod Copied
+pub mod Fetched
+pub mod Named
+pub mod Picked
+pub mod Runs

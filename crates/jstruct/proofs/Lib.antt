@@ -1,0 +1,12 @@
+pub mod Changing
+pub mod Counting
+pub mod Filling
+pub mod Layers
+pub mod LaidAxes
+pub mod Planning
+pub mod Ordering
+pub mod Repeating
+pub mod FromLast
+pub mod Rows
+pub mod Stretches
+pub mod Weighing

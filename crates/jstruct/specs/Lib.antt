@@ -1,0 +1,14 @@
+pub mod Arguments
+pub mod Axes
+pub mod Backward
+pub mod Ends
+pub mod Items
+pub mod Joins
+pub mod Laying
+pub mod Layouts
+pub mod Orders
+pub mod Same
+pub mod Shaping
+pub mod Sizes
+pub mod Transposing
+pub mod Weights
