@@ -6,15 +6,16 @@ use Rattle.jdata.specs.Trees.{kind_of, atoms_of}
 use Rattle.jdata.specs.declared.noun.Noun.{Noun}
 use Rattle.jdata.specs.declared.noun.Kind.TheVariants as sort
 use Rattle.jdata.specs.declared.noun.Atom.TheVariants as atom
+use Rattle.jdata.specs.declared.tree.Cell.{Cell}
 use Rattle.jdata.specs.declared.tree.Leaves.{Leaves}
 use Rattle.jdata.specs.declared.tree.Leaves.TheVariants as leaf
 use Rattle.jnumber.specs.Spelling.{written}
-use Rattle.jformat.specs.Rows.{row_axes, last_axis, integer_row, spelling_of}
+use Rattle.jformat.specs.Rows.{row_axes, last_axis, integer_row, rows_of}
 use Rattle.jdata.specs.Limits.{limited}
-use Rattle.jformat.specs.Format.{row_width, integer_text, format_by, format_of}
+use Rattle.jformat.specs.Format.{row_width, integer_text, matrix_text, format_by, format_of}
 use Rattle.jformat.proofs.LaidOut.{IsLaidOut, rows_are_all, widths_of}
 use Rattle.jformat.proofs.Sizes.{row_width_is}
-use Rattle.jformat.proofs.Texts.{AreLeaves, spellings_of_ints}
+use Rattle.jformat.proofs.Texts.{AreLeaves, texts_of, texts_of_ints}
 
 -- the axes of the text
 pub text_axes_are : (axes shape lent : List ℕ) (numbers : List ℤ) (widths : List ℕ) (rows columns width : ℕ) → IsLaidOut axes shape rows columns (length numbers) → lent ≡ shape → widths ≡ widths_of numbers rows columns → width ≡ sum widths + (length widths - 1) → lent ++ width ∷ [] ≡ row_axes axes ++ row_width (map written numbers) (product (row_axes axes)) (last_axis axes) ∷ []
@@ -38,7 +39,7 @@ unfolding format_of
 format_of_integers v leaves axes ns xs are is same =
     let k : sort.Int ≡ kind v = ap kind_of (sym is) ∙ are.kind_is in
     let a : map atom.Int ns ≡ atoms v = ap atoms_of (sym is) ∙ are.atoms_are in
-    let t : map written xs ≡ map spelling_of (atoms v) = ap (map written) same ∙ sym (spellings_of_ints ns) ∙ ap (map spelling_of) a in
+    let t : map written xs ≡ texts_of (atoms v) = ap (map written) same ∙ sym (texts_of_ints ns) ∙ ap texts_of a in
     ap (λ y. limited (integer_text y (map written xs))) are.axes_are
     ∙ ap (λ y. limited (integer_text (shape v) y)) t
     ∙ ap (λ y. format_by y v) k
@@ -46,3 +47,7 @@ format_of_integers v leaves axes ns xs are is same =
 pub format_of_characters : (v : Noun) (leaves : Leaves) (cs : List ℕ) → kind_of leaves ≡ kind v → leaves ≡ leaf.Char cs → format_of v ≡ Ok v
 unfolding format_of
 format_of_characters v leaves cs e is = ap (λ y. format_by y v) (sym e ∙ ap kind_of is)
+
+pub format_of_boxes : (v : Noun) (leaves : Leaves) (cs : List Cell) (rows : List (List ℕ)) → kind_of leaves ≡ kind v → leaves ≡ leaf.Cell cs → rows ≡ rows_of v → limited (matrix_text rows) ≡ format_of v
+unfolding format_of
+format_of_boxes v leaves cs rows e is same = ap (λ y. limited (matrix_text y)) same ∙ ap (λ y. format_by y v) (sym (ap kind_of is) ∙ e)

@@ -52,20 +52,26 @@ pub row_is : (numbers row : List ℤ) (widths : List ℕ) (rows columns r : ℕ)
 row_is numbers row widths rows columns r h fits wide taken =
     fields_are_row numbers rows columns r widths row (wide ∙ widths_of_all numbers rows columns r h) taken fits
 
-pub integer_line_is : (axes shape lent : List ℕ) (numbers row : List ℤ) (widths : List ℕ) (rows columns r blanks : ℕ) → IsLaidOut axes shape rows columns (length numbers) → r < rows → lent ≡ shape → blanks ≡ blanks_before_row lent r → widths ≡ widths_of numbers rows columns → row ≡ take columns (drop (r * columns) numbers) → replicate blanks line_end ++ (fields widths (map written row) ++ line_end ∷ []) ≡ integer_line axes numbers r
-integer_line_is axes shape lent numbers row widths rows columns r blanks laid h same before wide taken =
+pub integer_text_is : (axes shape : List ℕ) (numbers row : List ℤ) (widths : List ℕ) (rows columns r : ℕ) → IsLaidOut axes shape rows columns (length numbers) → r < rows → widths ≡ widths_of numbers rows columns → row ≡ take columns (drop (r * columns) numbers) → fields widths (map written row) ≡ integer_row (map written numbers) (product (row_axes axes)) (last_axis axes) r
+integer_text_is axes shape numbers row widths rows columns r laid h wide taken =
     let texts = map written numbers in
-    let text : fields widths (map written row) ≡ integer_row texts (product (row_axes axes)) (last_axis axes) r =
     row_is numbers row widths rows columns r h (row_room axes shape rows columns (length numbers) r laid h) wide taken
     ∙ ap (λ n. integer_row texts n columns r) (rows_are_all axes shape rows columns (length numbers) laid)
-    ∙ ap (λ n. integer_row texts (product (row_axes axes)) n r) laid.columns_are in
+    ∙ ap (λ n. integer_row texts (product (row_axes axes)) n r) laid.columns_are
+
+pub character_text_is : (axes shape characters row : List ℕ) (rows columns r : ℕ) → IsLaidOut axes shape rows columns (length characters) → r < rows → row ≡ take columns (drop (r * columns) characters) → row ≡ character_row (map single characters) (last_axis axes) r
+character_text_is axes shape characters row rows columns r laid h taken =
+    characters_are_row characters columns r row taken (row_room axes shape rows columns (length characters) r laid h)
+    ∙ ap (λ n. character_row (map single characters) n r) laid.columns_are
+
+pub integer_line_is : (axes shape lent : List ℕ) (numbers row : List ℤ) (widths : List ℕ) (rows columns r blanks : ℕ) → IsLaidOut axes shape rows columns (length numbers) → r < rows → lent ≡ shape → blanks ≡ blanks_before_row lent r → widths ≡ widths_of numbers rows columns → row ≡ take columns (drop (r * columns) numbers) → replicate blanks line_end ++ (fields widths (map written row) ++ line_end ∷ []) ≡ integer_line axes numbers r
+integer_line_is axes shape lent numbers row widths rows columns r blanks laid h same before wide taken =
+    let text = integer_text_is axes shape numbers row widths rows columns r laid h wide taken in
     ap (λ n. replicate n line_end ++ (fields widths (map written row) ++ line_end ∷ [])) (before ∙ ap (λ l. blanks_before_row l r) (same ∙ laid.shape_is))
     ∙ ap (λ l. replicate (blanks_before_row (row_axes axes) r) line_end ++ (l ++ line_end ∷ [])) text
 
 pub character_line_is : (axes shape lent characters row : List ℕ) (rows columns r blanks : ℕ) → IsLaidOut axes shape rows columns (length characters) → r < rows → lent ≡ shape → blanks ≡ blanks_before_row lent r → row ≡ take columns (drop (r * columns) characters) → replicate blanks line_end ++ (row ++ line_end ∷ []) ≡ character_line axes characters r
 character_line_is axes shape lent characters row rows columns r blanks laid h same before taken =
-    let text : row ≡ character_row (map single characters) (last_axis axes) r =
-    characters_are_row characters columns r row taken (row_room axes shape rows columns (length characters) r laid h)
-    ∙ ap (λ n. character_row (map single characters) n r) laid.columns_are in
+    let text = character_text_is axes shape characters row rows columns r laid h taken in
     ap (λ n. replicate n line_end ++ (row ++ line_end ∷ [])) (before ∙ ap (λ l. blanks_before_row l r) (same ∙ laid.shape_is))
     ∙ ap (λ l. replicate (blanks_before_row (row_axes axes) r) line_end ++ (l ++ line_end ∷ [])) text

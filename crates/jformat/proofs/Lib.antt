@@ -1,5 +1,8 @@
+pub mod Placed
 pub mod Changes
+pub mod Deep
 pub mod Digits
+pub mod Drawing
 pub mod Formatted
 pub mod Grid
 pub mod LaidOut

@@ -1,4 +1,4 @@
--- The display of arrays without boxes (J Dictionary and NuVoc, "Default Format"): a list of rows of characters.
+-- The display of arrays (J Dictionary and NuVoc, "Default Format"): a list of rows of characters.
 use Rattle.std.specs.Prelude.{ℕ, ◌+◌, ◌-◌, ◌*◌, ◌/◌, ◌%◌, ◌==◌, not, if◌then◌else◌, List, [], ◌∷◌, ◌++◌, length, map, take, drop, replicate, slice_index_or, count_by}
 use Rattle.std.specs.List.{range_with_len, flat_map, join_with_byte}
 use Rattle.jnumber.specs.Spelling.{written}
@@ -8,6 +8,7 @@ use Rattle.jdata.specs.declared.noun.Kind.{Kind}
 use Rattle.jdata.specs.declared.noun.Kind.TheVariants as sort
 use Rattle.jdata.specs.declared.noun.Atom.{Atom, Atom-F, fold-Atom}
 use Rattle.jdata.specs.declared.noun.Atom.TheOpen as one
+use Rattle.jformat.specs.Boxes.{box_rows, box_widths}
 
 abbrev pub blank : ℕ
 blank = 32
@@ -22,16 +23,6 @@ row_axes axes = take (length axes - 1) axes
 -- the last axis, and 1 where there is none
 abbrev pub last_axis : List ℕ → ℕ
 last_axis axes = slice_index_or axes (length axes - 1) 1
-
--- how an atom is written: an integer by its digits, a character as it is
-abbrev pub spelling_step : Atom-F (List ℕ) (List ℕ) → List ℕ
-spelling_step (one.Int n) = written n
-spelling_step (one.Char c) = c ∷ []
-spelling_step (one.Box inner) = []
-spelling_step (one.Pyx p) = []
-
-abbrev pub spelling_of : Atom → List ℕ
-spelling_of = fold-Atom (List ℕ) (List ℕ) spelling_step (λ v. [])
 
 -- the text in row r and column j of rows of so many columns, where the rows of all matrices are counted on
 abbrev pub text_at : List (List ℕ) → ℕ → ℕ → ℕ → List ℕ
@@ -72,14 +63,44 @@ blanks_before_row axes r =
 abbrev pub spaced : List ℕ → (ℕ → List ℕ) → List (List ℕ)
 spaced axes row = flat_map (λ r. replicate (blanks_before_row axes r) [] ++ row r ∷ []) (range_with_len 0 (product axes))
 
--- the rows of an array of this kind and shape, of whose atoms these are the texts
-abbrev pub rows_by : Kind → List ℕ → List (List ℕ) → List (List ℕ)
-rows_by sort.Int axes texts = spaced (row_axes axes) (integer_row texts (product (row_axes axes)) (last_axis axes))
-rows_by sort.Char axes texts = spaced (row_axes axes) (character_row texts (last_axis axes))
-rows_by sort.Boxed axes texts = []
+-- the rows of boxes whose contents have these rows: those of each row of boxes, behind the blank rows before it
+abbrev pub boxed_rows : List ℕ → List (List (List ℕ)) → List (List ℕ)
+boxed_rows axes blocks =
+    let outer = row_axes axes in
+    let columns = last_axis axes in
+    let widths = box_widths blocks (product outer) columns in
+    flat_map (λ r. replicate (blanks_before_row outer r) [] ++ box_rows (r % last_axis outer == 0) widths (take columns (drop (r * columns) blocks))) (range_with_len 0 (product outer))
+
+-- the rows of integers, and of characters, of which these are the texts
+abbrev pub integer_rows : List ℕ → List (List ℕ) → List (List ℕ)
+integer_rows axes texts = spaced (row_axes axes) (integer_row texts (product (row_axes axes)) (last_axis axes))
+
+abbrev pub character_rows : List ℕ → List (List ℕ) → List (List ℕ)
+character_rows axes texts = spaced (row_axes axes) (character_row texts (last_axis axes))
+
+-- the text of an atom that isn't a box: its only row
+abbrev pub text_of : List (List ℕ) → List ℕ
+text_of [] = []
+text_of (row ∷ rows) = row
+
+-- the rows of an array of this kind and shape, of whose atoms these are the rows
+abbrev pub rows_by : Kind → List ℕ → List (List (List ℕ)) → List (List ℕ)
+rows_by sort.Int axes blocks = integer_rows axes (map text_of blocks)
+rows_by sort.Char axes blocks = character_rows axes (map text_of blocks)
+rows_by sort.Boxed axes blocks = boxed_rows axes blocks
+
+-- how an atom is written, in rows: an integer by its digits, a character as it is, a box as its content. A pyx has no rows
+abbrev pub block_step : Atom-F (List (List ℕ)) (List (List ℕ)) → List (List ℕ)
+block_step (one.Int n) = written n ∷ []
+block_step (one.Char c) = (c ∷ []) ∷ []
+block_step (one.Box rows) = rows
+block_step (one.Pyx p) = []
+
+abbrev pub block_of : Atom → List (List ℕ)
+block_of = fold-Atom (List (List ℕ)) (List (List ℕ)) block_step (λ v. rows_by v.kind v.shape v.atoms)
 
 unfoldable pub rows_of : Noun → List (List ℕ)
-rows_of v = rows_by (kind v) (shape v) (map spelling_of (atoms v))
+rows_of v = rows_by (kind v) (shape v) (map block_of (atoms v))
 
 -- what is printed of an array: each row with a line end behind it
 abbrev pub lines_of : List (List ℕ) → List ℕ

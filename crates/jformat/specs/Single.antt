@@ -6,10 +6,10 @@ use Rattle.jdata.specs.Noun.{int_atom}
 use Rattle.jdata.specs.declared.noun.Atom.{fold-roll-Atom}
 use Rattle.jdata.specs.declared.noun.Atom.TheOpen as one
 use Rattle.jdata.specs.declared.noun.Atom.TheVariants as atom
-use Rattle.jformat.specs.Rows.{display_of, rows_of, line_end, blank, spelling_of, spelling_step}
+use Rattle.jformat.specs.Rows.{display_of, rows_of, line_end, blank, text_of, block_of, block_step, rows_by}
 
-pub spelling_of_int : (n : ℤ) → spelling_of (atom.Int n) ≡ written n
-spelling_of_int n = ap spelling_of (sym (atom.rolls-Int n)) ∙ fold-roll-Atom (List ℕ) (List ℕ) spelling_step (λ v. []) (one.Int n)
+pub block_of_int : (n : ℤ) → block_of (atom.Int n) ≡ written n ∷ []
+block_of_int n = ap block_of (sym (atom.rolls-Int n)) ∙ fold-roll-Atom (List (List ℕ)) (List (List ℕ)) block_step (λ v. rows_by v.kind v.shape v.atoms) (one.Int n)
 
 -- a text alone in its column needs no blanks
 alone : (text : List ℕ) → ((replicate (max (length text) 0 - length text) blank ++ text) ++ line_end ∷ []) ++ [] ≡ text ++ line_end ∷ []
@@ -19,4 +19,4 @@ alone text =
 
 pub display_of_int_atom : (n : ℤ) → display_of (int_atom n) ≡ written n ++ line_end ∷ []
 unfolding display_of rows_of
-display_of_int_atom n = alone (spelling_of (atom.Int n)) ∙ ap (λ text. text ++ line_end ∷ []) (spelling_of_int n)
+display_of_int_atom n = alone (text_of (block_of (atom.Int n))) ∙ ap (λ rows. text_of rows ++ line_end ∷ []) (block_of_int n)

@@ -1,28 +1,29 @@
 //! The display of an array as an array of characters.
 
-ghost use Rattle.std.specs.Prelude.{◌≡◌, ◌≢◌, ◌≤◌, ◌*◌, ◌==◌, if◌then◌else◌, ◌++◌, ◌∷◌, [], IfOk, IfErr, length, map};
+ghost use Rattle.std.specs.Prelude.{◌≡◌, ◌≤◌, ◌*◌, ◌==◌, if◌then◌else◌, ◌++◌, ◌∷◌, [], IfOk, IfErr, length, map};
 ghost use Rattle.std.specs.List.{range_with_len, flat_map};
-ghost use Rattle.jdata.specs.Noun.{kind, product};
-ghost use Rattle.jdata.specs.declared.noun.Kind.TheVariants as sort;
+ghost use Rattle.jdata.specs.Noun.{product};
 ghost use Rattle.jnumber.specs.Spelling.{written};
 ghost use Rattle.jdata.specs.Limits.{IsShape};
 ghost use Rattle.jformat.specs.Rows.{integer_row, width_of};
 ghost use Rattle.jdata.specs.Answers.{Answers};
 ghost use Rattle.jdata.specs.Limits.{limited};
-ghost use Rattle.jformat.specs.Format.{format_of, integer_text};
+ghost use Rattle.jformat.specs.Boxes.{padded};
+ghost use Rattle.jformat.specs.Format.{format_of, integer_text, matrix_text};
 ghost use Rattle.jformat.specs.Troubles.{IsLimitWhere};
 
 use crate::axes::{atoms_of_row, last_axis, row_shape};
+use crate::blocks::rows_of;
+use crate::boxes::{push_padded, widest};
 use crate::widths::{column_widths, row_width};
 use crate::writing::push_fields;
 use jdata::{Bytes, Fault, Leaves, NoMemory, Tree, Trouble};
 use jshape::Shape;
 use std::alloc::Global;
 
-/// The rows of an array without boxes as an array of characters (monadic `":`). Its only fault is
+/// The rows of an array as an array of characters (monadic `":`). Its only fault is
 /// Limit: the result would be beyond the limits of an array.
 pub fn format(alloc: Global, value: &Tree) -> Result<Tree, Trouble>
-    requires { kind value.now ≢ sort.Boxed }
     ensures { Answers (format_of value.now) result }
 {
     match value.items() {
@@ -31,7 +32,7 @@ pub fn format(alloc: Global, value: &Tree) -> Result<Tree, Trouble>
             Ok(copy) => Ok(copy),
             Err(NoMemory) => Err(Trouble::NoMemory),
         },
-        Leaves::Cell(_) => Err(Trouble::Fault(Fault::Nonce)),
+        Leaves::Cell(_) => format_rows(alloc, rows_of(alloc, value)?.items()),
     }
 }
 
@@ -54,6 +55,32 @@ fn format_integers(alloc: Global, axes: &[u64], numbers: &[i64]) -> Result<Tree,
         Ok(tree) => Ok(tree),
         Err(_) => Err(Trouble::Fault(Fault::Limit)),
     }
+}
+
+/// Rows as a matrix, with blanks at the right of those that aren't the widest.
+fn format_rows(alloc: Global, rows: &[Bytes]) -> Result<Tree, Trouble>
+    ensures { Answers (limited (matrix_text rows.now)) result }
+{
+    let width = widest(rows);
+    let axes = match text_axes(alloc, &[rows.len() as u64], width as u64) {
+        Ok(axes) => axes,
+        Err(trouble) => return Err(trouble),
+    };
+    let text = matrix_of_rows(alloc, rows, width)?;
+    match Tree::limited(axes, Leaves::Char(Bytes::of(text))) {
+        Ok(tree) => Ok(tree),
+        Err(fault) => Err(Trouble::Fault(fault)),
+    }
+}
+
+fn matrix_of_rows(alloc: Global, rows: &[Bytes], width: usize) -> Result<Vec<u8>, NoMemory>
+    ensures { IfOk result (λ text. text.items ≡ flat_map (padded width) rows.now) }
+{
+    let mut text = Vec::new(alloc);
+    for row in rows {
+        push_padded(&mut text, row.items(), width)?;
+    }
+    Ok(text)
 }
 
 /// The axes of rows of a width, where they are within the limits.

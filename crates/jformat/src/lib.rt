@@ -2,6 +2,8 @@
 #![tactic(auto)]
 
 mod axes;
+mod blocks;
+mod boxes;
 mod formatting;
 mod planes;
 mod showing;

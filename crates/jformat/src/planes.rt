@@ -1,6 +1,6 @@
 //! The blank rows between planes.
 
-ghost use Rattle.std.specs.Prelude.{◌≡◌, ◌<◌, ◌≤◌};
+ghost use Rattle.std.specs.Prelude.{◌≡◌, ◌<◌, ◌≤◌, ◌%◌, ◌==◌};
 ghost use Rattle.jdata.specs.Noun.{product};
 ghost use Rattle.jformat.specs.Rows as rows;
 
@@ -18,6 +18,14 @@ pub(crate) fn blanks_before_row(axes: &[u64], row: usize) -> usize
     } else {
         0
     }
+}
+
+/// Whether a row is the first of its plane.
+pub(crate) fn starts_plane(axes: &[u64], row: usize) -> bool
+    requires { 0 < product axes.now }
+    ensures { result ≡ (row % rows.last_axis axes.now == 0) }
+{
+    row % last_axis(axes) as usize == 0
 }
 
 /// How many blank rows stand before a plane: none before the first; else one, and one for each

@@ -1,5 +1,5 @@
 use crate::{display, format};
-use jdata::{Bytes, Fault, IntList, Kind, Leaves, Tree, Trouble};
+use jdata::{Bytes, Cell, CellList, Fault, IntList, Leaves, Tree, Trouble};
 use std::alloc::Global;
 
 fn integers(alloc: Global, axes: &[u64], atoms: &[i64]) -> Option<Tree> {
@@ -18,20 +18,9 @@ fn shows(alloc: Global, value: Option<Tree>, expected: &[u8]) -> bool {
     let Some(value) = value else {
         return false;
     };
-    let shown = match value.kind() {
-        Kind::Boxed => return false,
-        _ => display(alloc, &value),
-    };
-    match shown {
+    match display(alloc, &value) {
         Ok(bytes) => bytes.as_slice() == expected,
         Err(_) => false,
-    }
-}
-
-fn formatted(alloc: Global, value: &Tree) -> Option<Result<Tree, Trouble>> {
-    match value.kind() {
-        Kind::Boxed => None,
-        _ => Some(format(alloc, value)),
     }
 }
 
@@ -39,9 +28,9 @@ fn becomes(alloc: Global, value: Option<Tree>, expected: Option<Tree>) -> bool {
     let (Some(value), Some(expected)) = (value, expected) else {
         return false;
     };
-    match formatted(alloc, &value) {
-        Some(Ok(text)) => text.same(&expected),
-        _ => false,
+    match format(alloc, &value) {
+        Ok(text) => text.same(&expected),
+        Err(_) => false,
     }
 }
 
@@ -132,9 +121,9 @@ fn is_refused(alloc: Global, value: Option<Tree>) -> bool {
     let Some(value) = value else {
         return false;
     };
-    match formatted(alloc, &value) {
-        Some(Err(trouble)) => trouble == Trouble::Fault(Fault::Limit),
-        _ => false,
+    match format(alloc, &value) {
+        Ok(_) => false,
+        Err(trouble) => trouble == Trouble::Fault(Fault::Limit),
     }
 }
 
@@ -143,4 +132,111 @@ fn a_text_beyond_the_limits_is_refused(rt: HostRuntime) {
     // 20 characters of each number and a blank between two are 134,217,740 in all
     let value = wide_list(rt.alloc(), 6_391_321);
     assert!(rt; is_refused(rt.alloc(), value));
+}
+
+/// Boxes along these axes, whose contents are texts.
+fn texts(alloc: Global, axes: &[u64], contents: &[&[u8]]) -> Option<Tree> {
+    let mut cells = Vec::new(alloc);
+    for content in contents {
+        let content = *content;
+        let text = characters(alloc, &[content.len() as u64], content)?;
+        cells.push(Cell::Boxed(text)).ok()?;
+    }
+    boxes(alloc, axes, cells)
+}
+
+fn boxes(alloc: Global, axes: &[u64], cells: Vec<Cell>) -> Option<Tree> {
+    let axes = Vec::from_slice(alloc, axes).ok()?;
+    Tree::new(axes, Leaves::Cell(CellList::of(cells))).ok()
+}
+
+/// One box around a value.
+fn boxed(alloc: Global, content: Option<Tree>) -> Option<Tree> {
+    let mut cells = Vec::new(alloc);
+    cells.push(Cell::Boxed(content?)).ok()?;
+    boxes(alloc, &[], cells)
+}
+
+/// Two boxes beside each other.
+fn pair(alloc: Global, left: Option<Tree>, right: Option<Tree>) -> Option<Tree> {
+    let mut cells = Vec::new(alloc);
+    cells.push(Cell::Boxed(left?)).ok()?;
+    cells.push(Cell::Boxed(right?)).ok()?;
+    boxes(alloc, &[2], cells)
+}
+
+#[test]
+fn boxes_of_texts_are_shown(rt: HostRuntime) {
+    let table: [(&[u64], &[&[u8]], &[u8]); 8] = [
+        (&[], &[b""], b"++\n||\n++\n"),
+        (&[2], &[b"a", b"bcd"], b"+-+---+\n|a|bcd|\n+-+---+\n"),
+        (&[0], &[], b"\n"),
+        (&[0, 2], &[], b""),
+        (&[2, 0], &[], b"\n\n"),
+        (
+            &[2, 2],
+            &[b"a", b"", b"bc", b"d"],
+            b"+--+-+\n|a | |\n+--+-+\n|bc|d|\n+--+-+\n",
+        ),
+        // a column is as wide as in the other plane, and a blank row stands between
+        (
+            &[2, 1, 1],
+            &[b"a", b"bcd"],
+            b"+---+\n|a  |\n+---+\n\n+---+\n|bcd|\n+---+\n",
+        ),
+        // two axes change their number, so two blank rows
+        (
+            &[2, 1, 1, 1],
+            &[b"ab", b"c"],
+            b"+--+\n|ab|\n+--+\n\n\n+--+\n|c |\n+--+\n",
+        ),
+    ];
+    for (axes, contents, expected) in table.iter() {
+        let value = texts(rt.alloc(), axes, contents);
+        assert!(rt; shows(rt.alloc(), value, expected));
+    }
+}
+
+#[test]
+fn boxes_in_boxes_are_shown(rt: HostRuntime) {
+    let alloc = rt.alloc();
+    // no rows at all in the box
+    let none = boxed(alloc, integers(alloc, &[0, 0], &[]));
+    assert!(rt; shows(alloc, none, b"++\n++\n"));
+    // a matrix beside an atom: contents at the upper left
+    let matrix = integers(alloc, &[2, 2], &[1, 20, 3, 4]);
+    let beside = pair(alloc, matrix, integers(alloc, &[], &[-7]));
+    assert!(rt;
+        shows(
+            alloc,
+            beside,
+            b"+----+--+\n|1 20|_7|\n|3  4|  |\n+----+--+\n"
+        )
+    );
+    // planes in a box: the blank row is filled up too
+    let planes = boxed(alloc, integers(alloc, &[2, 1, 2], &[1, 2, 3, 4]));
+    assert!(rt; shows(alloc, planes, b"+---+\n|1 2|\n|   |\n|3 4|\n+---+\n"));
+    // boxes in boxes in boxes
+    let inner = boxed(alloc, boxed(alloc, characters(alloc, &[1], b"x")));
+    let outer = pair(alloc, inner, characters(alloc, &[2], b"yz"));
+    let expected =
+        b"+-----+--+\n|+---+|yz|\n||+-+||  |\n|||x|||  |\n||+-+||  |\n|+---+|  |\n+-----+--+\n";
+    assert!(rt; shows(alloc, outer, expected));
+}
+
+#[test]
+fn boxes_become_matrices(rt: HostRuntime) {
+    let table: [(&[u64], &[&[u8]], &[u64], &[u8]); 5] = [
+        (&[], &[b"ab"], &[3, 4], b"+--+|ab|+--+"),
+        (&[2], &[b"a", b""], &[3, 4], b"+-++|a||+-++"),
+        (&[0], &[], &[1, 0], b""),
+        (&[0, 2], &[], &[0, 0], b""),
+        // the blank row between planes is filled up
+        (&[2, 1, 1], &[b"a", b"b"], &[7, 3], b"+-+|a|+-+   +-+|b|+-+"),
+    ];
+    for (axes, contents, shape, expected) in table.iter() {
+        let value = texts(rt.alloc(), axes, contents);
+        let expected = characters(rt.alloc(), shape, expected);
+        assert!(rt; becomes(rt.alloc(), value, expected));
+    }
 }

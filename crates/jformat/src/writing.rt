@@ -77,7 +77,7 @@ fn push_field(out: &mut Vec<u8>, width: u8, number: i64) -> Result<(), AllocErro
 }
 
 /// Appends a byte so many times.
-fn push_many(out: &mut Vec<u8>, byte: u8, count: usize) -> Result<(), AllocError>
+pub(crate) fn push_many(out: &mut Vec<u8>, byte: u8, count: usize) -> Result<(), AllocError>
     ensures { OnOk result (out.new.items ≡ out.old.items ++ replicate count byte) }
 {
     for _ in 0..count {

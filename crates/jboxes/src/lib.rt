@@ -1,0 +1,11 @@
+//! The verbs of boxes.
+#![tactic(auto)]
+
+mod contents;
+mod made;
+mod verbs;
+
+pub use verbs::{disclose, enclose, level};
+
+#[cfg(test)]
+mod tests;

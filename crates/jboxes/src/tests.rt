@@ -1,0 +1,89 @@
+use crate::{disclose, enclose, level};
+use jarray::{Array, Room};
+use jdata::{Bytes, Cell, CellList, Fault, IntList, Leaves, Tree, Trouble};
+use std::alloc::Global;
+use std::test::Fail;
+
+fn integers(alloc: Global, axes: &[u64], atoms: &[i64]) -> Result<Tree, Fail> {
+    let axes = Vec::from_slice(alloc, axes)?;
+    let atoms = Vec::from_slice(alloc, atoms)?;
+    Ok(Tree::new(axes, Leaves::Int(IntList::of(atoms)))?)
+}
+
+fn text(alloc: Global, bytes: &[u8]) -> Result<Tree, Fail> {
+    let axes = Vec::from_slice(alloc, &[bytes.len() as u64])?;
+    let bytes = Vec::from_slice(alloc, bytes)?;
+    Ok(Tree::new(axes, Leaves::Char(Bytes::of(bytes)))?)
+}
+
+/// Boxes in a list.
+fn pair(alloc: Global, left: Tree, right: Tree) -> Result<Tree, Fail> {
+    let mut cells = Vec::new(alloc);
+    cells.push(Cell::Boxed(left))?;
+    cells.push(Cell::Boxed(right))?;
+    let axes = Vec::from_slice(alloc, &[2])?;
+    Ok(Tree::new(axes, Leaves::Cell(CellList::of(cells)))?)
+}
+
+fn is_same(alloc: Global, room: &Room, found: Array, expected: Tree) -> bool {
+    found.match_with(room, &Array::of(expected))
+}
+
+#[test]
+fn boxes_are_opened(rt: HostRuntime) -> Result<(), Fail> {
+    let alloc = rt.alloc();
+    let mut room = Room::none();
+    // `> < 1 2` is `1 2`
+    let one = enclose(alloc, &mut room, Array::of(integers(alloc, &[2], &[1, 2])?))?;
+    let back = disclose(alloc, &mut room, one)?;
+    assert!(rt; is_same(alloc, &room, back, integers(alloc, &[2], &[1, 2])?));
+    // `> 1 2 ; 3` is a table whose second row is filled
+    let two = pair(
+        alloc,
+        integers(alloc, &[2], &[1, 2])?,
+        integers(alloc, &[], &[3])?,
+    )?;
+    let table = disclose(alloc, &mut room, Array::of(two))?;
+    assert!(rt;
+        is_same(
+            alloc,
+            &room,
+            table,
+            integers(alloc, &[2, 2], &[1, 2, 3, 0])?
+        )
+    );
+    // `> 5` is `5`
+    let five = disclose(alloc, &mut room, Array::atom(5))?;
+    assert_eq!(rt; five.integer(&room), Some(5));
+    // kinds that differ
+    let mixed = pair(alloc, text(alloc, b"a")?, integers(alloc, &[], &[3])?)?;
+    let refused = disclose(alloc, &mut room, Array::of(mixed));
+    assert!(rt; matches!(refused, Err(Trouble::Fault(Fault::Domain))));
+    Ok(())
+}
+
+#[test]
+fn levels_are_counted(rt: HostRuntime) -> Result<(), Fail> {
+    let alloc = rt.alloc();
+    let mut room = Room::none();
+    let none = level(alloc, &mut room, Array::atom(7))?;
+    assert_eq!(rt; none.integer(&room), Some(0));
+    let one = enclose(alloc, &mut room, Array::atom(7))?;
+    let two = enclose(alloc, &mut room, one)?;
+    let count = level(alloc, &mut room, two)?;
+    assert_eq!(rt; count.integer(&room), Some(2));
+    Ok(())
+}
+
+#[test]
+fn boxes_are_at_most_64_deep(rt: HostRuntime) -> Result<(), Fail> {
+    let alloc = rt.alloc();
+    let mut room = Room::none();
+    let mut deep = Array::atom(1);
+    for _ in 0..64 {
+        deep = enclose(alloc, &mut room, deep)?;
+    }
+    let refused = enclose(alloc, &mut room, deep);
+    assert!(rt; matches!(refused, Err(Trouble::Fault(Fault::Limit))));
+    Ok(())
+}
