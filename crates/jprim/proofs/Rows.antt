@@ -5,7 +5,7 @@ use Rattle.jdata.specs.Noun.{shape}
 use Rattle.jdata.specs.declared.fault.Fault.{Fault}
 use Rattle.jdata.specs.declared.fault.Fault.TheVariants.{Domain, Nonce}
 use Rattle.jdata.specs.declared.primitive.Primitive.{Primitive}
-use Rattle.jdata.specs.declared.primitive.Primitive.TheVariants.{Equal, TildeColon}
+use Rattle.jdata.specs.declared.primitive.Primitive.TheVariants.{Equal, TildeColon, Dollar, Hash, Comma, CommaDot, CommaColon, BarColon, BarDot, LeftBrace, LeftBraceDot, LeftBraceColon, LeftBraceColonColon, RightBraceDot, RightBraceColon, LeftBracket, RightBracket, LeftBracketColon, IDot, IColon, CapitalIDot, Less, Greater, CapitalLDot}
 use Rattle.jdata.specs.declared.noun.Noun.{Noun}
 use Rattle.jdata.specs.declared.noun.Atom.{Atom, Atom-F, out-Atom}
 use Rattle.jdata.specs.declared.noun.Atom.TheOpen as one
@@ -27,9 +27,29 @@ by_integers : (row : Option (ℤ → Result ℤ Fault)) (y : Noun) → each_by r
 by_integers (Some meant) y = refl
 by_integers None y = refl
 
-pub monad_is : (verb : Primitive) (y : Noun) → scalar_monad verb y ≡ monads.given (monads.monad_of verb) y
+pub monad_is : (verb : Primitive) → monads.is_whole (monads.monad_of verb) ≡ false → (y : Noun) → scalar_monad verb y ≡ monads.given (monads.monad_of verb) y
 unfolding monads.monad_of
-monad_is verb y = by_integers (monad_on verb) y
+monad_is Dollar h y = cc
+monad_is Hash h y = cc
+monad_is Comma h y = cc
+monad_is CommaDot h y = cc
+monad_is CommaColon h y = cc
+monad_is BarColon h y = cc
+monad_is BarDot h y = cc
+monad_is LeftBraceDot h y = cc
+monad_is LeftBraceColon h y = cc
+monad_is RightBraceDot h y = cc
+monad_is RightBraceColon h y = cc
+monad_is LeftBracket h y = cc
+monad_is RightBracket h y = cc
+monad_is LeftBracketColon h y = cc
+monad_is IDot h y = cc
+monad_is IColon h y = cc
+monad_is CapitalIDot h y = cc
+monad_is Less h y = cc
+monad_is Greater h y = cc
+monad_is CapitalLDot h y = cc
+monad_is verb h y = by_integers (monad_on verb) y
 
 -- two meanings of atoms that are one
 same_whole : (verb : Primitive) (meant : Atom → Atom → Result ℤ Fault) → ((a b : Atom) → of_atoms verb a b ≡ meant a b) → (x y : Noun) (whole : _) → scalar.of_shape verb x y whole ≡ dyads.of_whole meant x y whole
@@ -72,11 +92,26 @@ compares verb meant h listed_ same x y =
     ∙ ap (λ c. cond (c || (is_integers x && is_integers y)) (scalar.of_shape verb x y (longer (shape x) (shape y))) (Err Domain)) h
     ∙ same_whole verb meant (λ a b. of_compared verb h a b ∙ same a b) x y (longer (shape x) (shape y))
 
-by_kind : (verb : Primitive) (b : Bool) → is_comparison verb ≡ b → (x y : Noun) → scalar.scalar_dyad verb x y ≡ dyads.given (dyads.dyad_of verb) x y
+by_kind : (verb : Primitive) → dyads.is_whole (dyads.dyad_of verb) ≡ false → (b : Bool) → is_comparison verb ≡ b → (x y : Noun) →
+    scalar.scalar_dyad verb x y ≡ dyads.given (dyads.dyad_of verb) x y
 unfolding is_comparison compared dyad_on dyads.dyad_of
-by_kind Equal b h x y = compares Equal dyads.if_equal refl refl (λ a c. refl) x y
-by_kind TildeColon b h x y = compares TildeColon dyads.if_unequal refl refl (λ a c. refl) x y
-by_kind verb b h x y = numbers verb _ refl refl x y
+by_kind Equal w b h x y = compares Equal dyads.if_equal refl refl (λ a c. refl) x y
+by_kind TildeColon w b h x y = compares TildeColon dyads.if_unequal refl refl (λ a c. refl) x y
+by_kind Dollar w b h x y = cc
+by_kind Comma w b h x y = cc
+by_kind CommaDot w b h x y = cc
+by_kind CommaColon w b h x y = cc
+by_kind BarColon w b h x y = cc
+by_kind BarDot w b h x y = cc
+by_kind LeftBraceDot w b h x y = cc
+by_kind RightBraceDot w b h x y = cc
+by_kind LeftBracket w b h x y = cc
+by_kind RightBracket w b h x y = cc
+by_kind LeftBracketColon w b h x y = cc
+by_kind Hash w b h x y = cc
+by_kind LeftBrace w b h x y = cc
+by_kind LeftBraceColonColon w b h x y = cc
+by_kind verb w b h x y = numbers verb _ refl refl x y
 
-pub dyad_is : (verb : Primitive) (x y : Noun) → scalar.scalar_dyad verb x y ≡ dyads.given (dyads.dyad_of verb) x y
-dyad_is verb x y = by_kind verb (is_comparison verb) refl x y
+pub dyad_is : (verb : Primitive) → dyads.is_whole (dyads.dyad_of verb) ≡ false → (x y : Noun) → scalar.scalar_dyad verb x y ≡ dyads.given (dyads.dyad_of verb) x y
+dyad_is verb w x y = by_kind verb w (is_comparison verb) refl x y

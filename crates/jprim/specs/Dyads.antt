@@ -1,10 +1,10 @@
 -- The table of primitives, of two arguments (NuVoc, "Vocabulary"): what each gives.
-use Rattle.std.specs.Prelude.{ℕ, ◌&&◌, not, if◌then◌else◌, ℤ, Option, Some, None, Result, Ok, Err, List}
+use Rattle.std.specs.Prelude.{ℕ, ◌&&◌, not, if◌then◌else◌, Bool, true, false, ℤ, pos, Option, Some, None, Result, Ok, Err, List}
 use Rattle.jdata.specs.Noun.{shape, atoms, product}
 use Rattle.jdata.specs.declared.fault.Fault.{Fault}
 use Rattle.jdata.specs.declared.fault.Fault.TheVariants.{Nonce, Domain, Length}
 use Rattle.jdata.specs.declared.primitive.Primitive.{Primitive}
-use Rattle.jdata.specs.declared.primitive.Primitive.TheVariants.{Equal, TildeColon}
+use Rattle.jdata.specs.declared.primitive.Primitive.TheVariants.{Equal, TildeColon, Dollar, Comma, CommaDot, CommaColon, BarColon, BarDot, LeftBraceDot, RightBraceDot, LeftBracket, RightBracket, LeftBracketColon, Hash, LeftBrace, LeftBraceColonColon}
 use Rattle.jdata.specs.declared.noun.Noun.{Noun}
 use Rattle.jdata.specs.declared.noun.Atom.{Atom, Atom-F, out-Atom}
 use Rattle.jdata.specs.declared.noun.Atom.TheOpen as one
@@ -15,12 +15,26 @@ use Rattle.jscalar.specs.Places.{by_place}
 use Rattle.jscalar.specs.Truths.{truth}
 use Rattle.jshape.specs.Agreement.{longer, repeated}
 use Rattle.jdyad.specs.Dyads.{atom_for}
+use Rattle.jframe.specs.Ranks.{at_ranks}
+use Rattle.jselect.specs.Copies as copies
+use Rattle.jselect.specs.From as choosing
+use Rattle.jstruct.specs.Axes as axes
+use Rattle.jstruct.specs.Joins as joins
+use Rattle.jstruct.specs.Laying as laying
+use Rattle.jstruct.specs.Same as sides
+use Rattle.jstruct.specs.Shaping as shaping
 
--- a valence that is left out; what the verb gives of two integers; or what it gives of two atoms of any kind
+-- a valence that is left out; what the verb gives of two integers; what it gives of two atoms of any kind; or its left and its
+-- right rank, none where there is no limit, and what it gives of two whole arrays
 pub data Row : Type 0 where
   Absent : Row
   EachInteger : (ℤ → ℤ → Result ℤ Fault) → Row
   EachAtom : (Atom → Atom → Result ℤ Fault) → Row
+  Whole : Option ℤ → Option ℤ → (Noun → Noun → Result Noun Fault) → Row
+
+abbrev pub is_whole : Row → Bool
+is_whole (Whole left right meant) = true
+is_whole other = false
 
 abbrev pub on_integers : Option (ℤ → ℤ → Result ℤ Fault) → Row
 on_integers (Some meant) = EachInteger meant
@@ -32,10 +46,24 @@ if_equal a b = Ok (truth (equal_atoms a b))
 abbrev pub if_unequal : Atom → Atom → Result ℤ Fault
 if_unequal a b = Ok (truth (not (equal_atoms a b)))
 
--- the two that compare atoms of any kind, and the other scalar dyads; the others aren't built
+-- the two that compare atoms of any kind, the verbs on whole arrays, and the other scalar dyads; the others aren't built
 unfoldable pub dyad_of : Primitive → Row
 dyad_of Equal = EachAtom if_equal
 dyad_of TildeColon = EachAtom if_unequal
+dyad_of Dollar = Whole (Some (pos 1)) None shaping.reshaped
+dyad_of Comma = Whole None None joins.appended
+dyad_of CommaDot = Whole None None joins.stitched
+dyad_of CommaColon = Whole None None joins.laminated
+dyad_of BarColon = Whole (Some (pos 1)) None axes.transposed_by
+dyad_of BarDot = Whole (Some (pos 1)) None laying.turned
+dyad_of LeftBraceDot = Whole (Some (pos 1)) None laying.taken
+dyad_of RightBraceDot = Whole (Some (pos 1)) None laying.dropped
+dyad_of LeftBracket = Whole None None sides.left
+dyad_of RightBracket = Whole None None sides.right
+dyad_of LeftBracketColon = Whole None None sides.capped_dyad
+dyad_of Hash = Whole (Some (pos 1)) None copies.copied
+dyad_of LeftBrace = Whole (Some (pos 0)) None choosing.selected
+dyad_of LeftBraceColonColon = Whole (Some (pos 1)) None choosing.fetched
 dyad_of verb = on_integers (dyad_on verb)
 
 -- what a meaning on integers gives of two atoms
@@ -59,3 +87,4 @@ given Absent x y = Err Nonce
 given (EachInteger meant) x y =
     if is_integers x && is_integers y then each_pair (λ a b. of_integers meant (out-Atom a) (out-Atom b)) x y else Err Domain
 given (EachAtom meant) x y = each_pair meant x y
+given (Whole left right meant) x y = at_ranks left right meant x y
