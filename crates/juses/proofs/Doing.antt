@@ -1,9 +1,9 @@
 -- How what calls did by programs is put together.
 use Rattle.std.proofs.Common.{◌≡◌, refl, sym, ap, subst, ℕ, List, [], ◌∷◌, ◌++◌, append-nil, Result, Ok, Err}
 use Rattle.juses.specs.Entries.{entry}
-use Rattle.juses.specs.Events.{Events, NoMore, Did, told, HaltsAt, Does, passing, Runs, RunsClosing}
+use Rattle.juses.specs.Events.{Events, NoMore, Did, told, HaltsAt, Does, passing, stuck_by, Runs, RunsClosing}
 use Rattle.juses.specs.Program.{Program, Return, Ask, ◌>>=◌}
-use Rattle.juses.specs.Told.{Told, Replied, Passed, nothing, replied, closed_with, ◌followed_by◌}
+use Rattle.juses.specs.Told.{Told, Replied, Passed, nothing, replied, refusing, closed_with, ◌followed_by◌}
 use Rattle.juses.specs.Wishes.{Wish, use_of}
 use Rattle.juses.specs.declared.uses.Cause.{Cause}
 use Rattle.juses.specs.declared.uses.Halt.{Halt}
@@ -74,9 +74,9 @@ module _ {S : Type 0} (uses : Relations S) (who : List ℕ) where
   pub goes_on : {A B : Type 0} (s t u : S) (p : Program Wish Reply A) (f : A → Program Wish Reply B) (a : A) (r : Result B Halt)
       → Ran s t p (Ok a) → Ran t u (f a) r → Ran s u (p >>= f) r
   goes_on s t u p f a r (es, l, h) (fs, m, k) =
-      let P : List Told → Type 0 = λ xs. uses.leads s (record { told = xs; handed = []; closed = [] }) u in (
+      let P : List Told → Type 0 = λ xs. uses.leads s (record { told = xs; handed = []; closed = stuck_by r }) u in (
         both es fs,
-        subst P (sym (told_both es fs)) (uses.joins s t u (passing es []) (passing fs []) l m),
+        subst P (sym (told_both es fs)) (uses.joins s t u (passing es []) (passing fs (stuck_by r)) l m),
         does_both (uses.refuses u) f who p es fs a r (whichever (uses.refuses t) (uses.refuses u) who p es a h) k,
       )
 
@@ -97,7 +97,7 @@ module _ {S : Type 0} (uses : Relations S) (who : List ℕ) where
   pub asked_once : (s t : S) (thread : ℕ) (q : Wish) (r : Reply) → uses.leads s (replied (entry who thread (use_of q) r)) t → Ran s t (Ask q Return) (Ok r)
   asked_once s t thread q r l = (Did (entry who thread (use_of q) r) NoMore, l, (refl, refl, refl))
 
-  pub not_asked : (s t : S) (q : Wish) (halt : Halt) → uses.leads s nothing t → uses.refuses t who (use_of q) halt → Ran s t (Ask q Return) (Err halt)
+  pub not_asked : (s t : S) (q : Wish) (halt : Halt) → uses.leads s (refusing halt) t → uses.refuses t who (use_of q) halt → Ran s t (Ask q Return) (Err halt)
   not_asked s t q halt l said = (NoMore, l, refused_at (uses.refuses t) halt who q Return said)
 
   -- a closing behind what was done up to want of memory

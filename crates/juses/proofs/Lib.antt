@@ -1,7 +1,11 @@
 pub mod Tables
+pub mod Makers
+pub mod Bounds
 pub mod Desks
 pub mod Traces
 pub mod Doing
 pub mod KeyFacts
 pub mod Runs
+pub mod Alone
 pub mod Closing
+pub mod Solos

@@ -7,11 +7,12 @@ use Rattle.juses.specs.Entries.{entry}
 use Rattle.juses.specs.Events.{Events, NoMore, Did, told, Does, HaltsAt}
 use Rattle.juses.specs.Histories.{Once, after, Fits, Legal, own, replies, prints, Asks, Faithful, Complete, OneThread, OneThreadRun}
 use Rattle.juses.specs.OldestFirst.{taken, Tells, written, onto, history}
-use Rattle.juses.specs.Told.{Told, Replied}
-use Rattle.juses.specs.Wishes.{Wish, use_of}
+use Rattle.juses.specs.Told.{Told, Replied, Handed, NoneDue}
+use Rattle.juses.specs.Wishes.{Wish, Read, Write, Print, use_of}
 use Rattle.juses.specs.declared.uses.Entry.{Entry}
 use Rattle.juses.specs.declared.uses.Use.{Use}
-use Rattle.juses.specs.declared.uses.Use.TheVariants.{Read, Write, Print}
+use Rattle.juses.specs.declared.uses.Use.TheVariants.{Begin}
+use Rattle.juses.specs.declared.uses.Reply.TheVariants.{Done}
 use Rattle.juses.specs.declared.uses.Reply.{Reply}
 use Rattle.juses.specs.declared.uses.Halt.{Halt}
 use Rattle.juses.specs.declared.uses.Halt.TheVariants as halts
@@ -25,6 +26,8 @@ fits_main who thread main zeroth = subst (λ w. Fits w thread) (sym main) zeroth
 abbrev AllMain : List Told → Type 0
 AllMain [] = Unit {0}
 AllMain (Replied e ∷ xs) = (e.who ≡ []) × AllMain xs
+AllMain (Handed why task thread work ∷ xs) = ⊥
+AllMain (NoneDue why ∷ xs) = AllMain xs
 
 abbrev IsMain : List Entry → Type 0
 IsMain [] = Unit {0}
@@ -33,14 +36,20 @@ IsMain (e ∷ h) = (e.who ≡ []) × IsMain h
 legal_onto : (workers : ℕ) (xs : List Told) (h : List Entry) → Legal workers h → Tells 0 (after workers h) xs → AllMain xs → Legal workers (onto xs h)
 legal_onto workers [] h l r m = l
 legal_onto workers (Replied e ∷ xs) h l r m = legal_onto workers xs (e ∷ h) (l, fits_main e.who e.thread m.0 r.0.0, r.0.1) r.1 m.1
+legal_onto workers (Handed why task thread work ∷ xs) h l r m = absurd m
+legal_onto workers (NoneDue why ∷ xs) h l r m = legal_onto workers xs h l r.1 m
 
 pub after_onto : (workers : ℕ) (xs : List Told) (h : List Entry) → after workers (onto xs h) ≡ taken (after workers h) xs
 after_onto workers [] h = refl
 after_onto workers (Replied e ∷ xs) h = after_onto workers xs (e ∷ h)
+after_onto workers (Handed why task thread work ∷ xs) h = after_onto workers xs (entry task thread Begin Done ∷ h)
+after_onto workers (NoneDue why ∷ xs) h = after_onto workers xs h
 
 pub prints_onto : (xs : List Told) (h : List Entry) → prints (onto xs h) ≡ prints h ++ written xs
 prints_onto [] h = sym (append-nil (prints h))
 prints_onto (Replied e ∷ xs) h = prints_onto xs (e ∷ h) ∙ append_assoc (prints h) (bytes_of e.asked) (written xs)
+prints_onto (Handed why task thread work ∷ xs) h = prints_onto xs (entry task thread Begin Done ∷ h) ∙ append_assoc (prints h) [] (written xs)
+prints_onto (NoneDue why ∷ xs) h = prints_onto xs h
 
 pub printed_after : (workers : ℕ) (h : List Entry) → (after workers h).printed ≡ prints h
 printed_after workers [] = refl
@@ -66,11 +75,17 @@ newer p (x ∷ h) (inr s) = by (newer p h s)
     by (inl e) = inr (x, inl (ap (λ l. x ∷ l) e))
     by (inr t) = inr (t.0, inr t.1)
 
--- each use has a reply
-has_reply : (s : State) (u : Use) → (r : Reply) × (reply s [] 0 u ≡ Some r)
+-- each use that a piece of work makes has a reply
+has_reply : (s : State) (q : Wish) → (r : Reply) × (reply s [] 0 (use_of q) ≡ Some r)
 has_reply s (Read from name) = (_, refl)
 has_reply s (Write place name value) = (_, refl)
 has_reply s (Print bytes) = (_, refl)
+
+-- what main asks is one of these
+pub is_wish : {A : Type 0} (p : Program Wish Reply A) (rs : List Reply) (u : Use) → next (main_of p) rs ≡ Some u → (q : Wish) × (use_of q ≡ u)
+is_wish (Return a) rs u e = cc
+is_wish (Ask q k) [] u e = (q, cc)
+is_wish (Ask q k) (r ∷ rs) u e = is_wish (k r) rs u e
 
 module _ {A : Type 0} (script : Program Wish Reply A) where
   -- the program is what is left of the script after the history
@@ -183,8 +198,9 @@ module _ {A : Type 0} (script : Program Wish Reply A) where
         by : (n : Option Use) → next (main_of script) (replies (own [] h)) ≡ n → next (main_of script) (replies (own [] h)) ≡ None
         by None e = e
         by (Some u) e =
-            let r = has_reply (after workers h) u in
-            absurd (o.1 (record { who = []; thread = 0; asked = u; reply = r.0 }) (o.0, refl, refl, (main_of script, (refl, refl), e), r.1))
+            let q = is_wish script (replies (own [] h)) u e in
+            let r = has_reply (after workers h) q.0 in
+            absurd (o.1 (record { who = []; thread = 0; asked = use_of q.0; reply = r.0 }) (o.0, refl, refl, (main_of script, (refl, refl), e ∙ ap Some (sym q.1)), r.1))
 
     pub once_run : (r : List Entry) → OneThreadRun script workers r → (h : List Entry) → OneThread script workers h → Once h r
     once_run r o [] p = once_empty r
@@ -214,7 +230,7 @@ nothing_refused who asked halt = ⊥
 done_from : {A : Type 0} (p : Program Wish Reply A) (s : State) → (es : Events) × (a : A) × Does nothing_refused [] p es (Ok a) × Tells 0 s (told es)
 done_from (Return a) s = (NoMore, a, refl, tt)
 done_from (Ask q k) s =
-    let r = has_reply s (use_of q) in
+    let r = has_reply s q in
     let rest = done_from (k r.0) (moved s (entry [] 0 (use_of q) r.0)) in
     (Did (entry [] 0 (use_of q) r.0) rest.0, rest.1, (refl, refl, rest.2), ((refl, r.1), rest.3))
 

@@ -1,7 +1,7 @@
 -- What an activity did by a program between two states of its `Uses`, and how it came to an answer or a halt.
 use Rattle.std.specs.Prelude.{◌≡◌, ℕ, List, [], ◌∷◌, Result, Ok, Err}
 use Rattle.juses.specs.Program.{Program, Return, Ask}
-use Rattle.juses.specs.Told.{Told, Replied, Passed}
+use Rattle.juses.specs.Told.{Told, Replied, Passed, closing_at}
 use Rattle.juses.specs.Wishes.{Wish, use_of}
 use Rattle.juses.specs.declared.uses.Cause.{Cause}
 use Rattle.juses.specs.declared.uses.Cause.TheVariants as cause
@@ -47,15 +47,19 @@ passing es closed = record { told = told es; handed = []; closed = closed }
 abbrev pub RunsClosing : {S A : Type 0} → List Cause → (S → Passed → S → Type 0) → (S → List ℕ → Use → Halt → Type 0) → List ℕ → S → S → Program Wish Reply A → Result A Halt → Type 0
 RunsClosing closed leads refuses who old new program result = (es : Events) × leads old (passing es closed) new × Does (refuses new) who program es result
 
--- the session was not closed
-abbrev pub Runs : {S A : Type 0} → (S → Passed → S → Type 0) → (S → List ℕ → Use → Halt → Type 0) → List ℕ → S → S → Program Wish Reply A → Result A Halt → Type 0
-Runs leads refuses who old new program result = RunsClosing [] leads refuses who old new program result
+-- it was closed at a use that has no reply, and for nothing else
+abbrev pub stuck_by : {A : Type 0} → Result A Halt → List Cause
+stuck_by (Ok a) = []
+stuck_by (Err halt) = closing_at halt
 
--- it is closed for want of memory, where a halt tells of that, and for nothing else
+abbrev pub Runs : {S A : Type 0} → (S → Passed → S → Type 0) → (S → List ℕ → Use → Halt → Type 0) → List ℕ → S → S → Program Wish Reply A → Result A Halt → Type 0
+Runs leads refuses who old new program result = RunsClosing (stuck_by result) leads refuses who old new program result
+
+-- it is closed for want of memory too, where a halt tells of that
 abbrev pub closings : {A : Type 0} → Result A Halt → List Cause
 closings (Ok a) = []
 closings (Err NoMemory) = cause.NoMemory ∷ []
-closings (Err Wait) = []
+closings (Err Wait) = closing_at Wait
 closings (Err (Closed cause)) = []
 
 abbrev pub RunsWhole : {S A : Type 0} → (S → Passed → S → Type 0) → (S → List ℕ → Use → Halt → Type 0) → List ℕ → S → S → Program Wish Reply A → Result A Halt → Type 0

@@ -4,9 +4,13 @@ pub mod Entries
 pub mod Told
 pub mod Events
 pub mod Keys
+pub mod Tables
 pub mod Desk
+pub mod Agreeing
 pub mod Histories
+pub mod Activities
 pub mod Standing
+pub mod Limits
 pub mod Keeping
 pub mod OldestFirst
 pub mod Leading

@@ -3,6 +3,8 @@
 ghost use Rattle.std.specs.Prelude.{◌≡◌, ◌≢◌, ℕ, List, [], ◌∷◌, ◌++◌, map, true, false, Some, None, Result, Ok, Err};
 ghost use Rattle.juses.specs.Program.{Program, next, Begins, Ends};
 ghost use Rattle.juses.specs.Keys.{Key, is_among, changed_by};
+ghost use Rattle.juses.specs.Activities as many;
+ghost use Rattle.juses.specs.Agreeing.{AgreeBeside, AgreeOnHolder};
 ghost use Rattle.juses.specs.Desk.{State, first, reply, moved, depends_on};
 ghost use Rattle.juses.specs.Events.{Events, told, Does, Runs};
 ghost use Rattle.juses.specs.Histories.{Once, after, prints, Legal, Asks, Faithful, Complete, OneThread, OneThreadRun};
@@ -11,7 +13,9 @@ ghost use Rattle.juses.specs.OldestFirst.{Tells, history, taken, written};
 ghost use Rattle.juses.specs.Standing.{Kept, Refuses};
 ghost use Rattle.juses.specs.Told.{Told};
 ghost use Rattle.juses.specs.Wishes.{Wish};
+ghost use Rattle.juses.specs.declared.uses.Ended.{Ended};
 ghost use Rattle.juses.specs.declared.uses.Entry.{Entry};
+ghost use Rattle.juses.specs.declared.uses.Work.{Work};
 ghost use Rattle.juses.specs.declared.uses.Halt.{Halt};
 ghost use Rattle.juses.specs.declared.uses.Halt.TheVariants as halts;
 ghost use Rattle.juses.specs.declared.uses.Reply.{Reply};
@@ -32,12 +36,12 @@ pub fn next_law<A>()
 {}
 
 /// An entry changes what stands at its keys alone, and there what was there before and the entry
-/// determine the change, whoever asked and on whichever thread. Where two states agree on what a use
-/// depends on in one of them, its reply is the same in both.
+/// determine the change, on whichever thread, and at all keys but mutexes whoever asked. Where two
+/// states agree on what a use depends on in one of them, its reply is the same in both.
 pub fn desk_law()
     ensures others { (s : State) (e : Entry) (k : Key) → changed_by e k ≡ false → (moved s e).at k ≡ s.at k }
-    ensures changes { (s t : State) (e d : Entry) (k : Key) → e.asked ≡ d.asked → e.reply ≡ d.reply → s.at k ≡ t.at k → (moved s e).at k ≡ (moved t d).at k }
-    ensures replies { (s t : State) (who : List ℕ) (thread thread' : ℕ) (asked : Use) → ((k : Key) → is_among (depends_on s asked) k ≡ true → s.at k ≡ t.at k) → reply s who thread asked ≡ reply t who thread' asked }
+    ensures changes { (s t : State) (e d : Entry) (k : Key) → e.asked ≡ d.asked → e.reply ≡ d.reply → AgreeOnHolder k e.who d.who → s.at k ≡ t.at k → (moved s e).at k ≡ (moved t d).at k }
+    ensures replies { (s t : State) (who : List ℕ) (thread thread' : ℕ) (asked : Use) → ((k : Key) → is_among (depends_on s asked) k ≡ true → s.at k ≡ t.at k) → AgreeBeside s t who thread thread' asked → reply s who thread asked ≡ reply t who thread' asked }
 {}
 
 /// What main did, as contracts tell it, is a legal and faithful history with these prints. It is
@@ -68,4 +72,13 @@ pub fn one_thread_law<A>()
 pub fn prefix_law<A>()
     ensures legal { (workers : ℕ) (p h : List Entry) → Once p h → Legal workers h → Legal workers p }
     ensures faithful { (script : Program Wish Reply A) (p h : List Entry) → Once p h → Faithful script h → Faithful script p }
+{}
+
+/// Whatever the works of tasks mean, a history of main alone is one of many activities of which none
+/// was started: legal, faithful, complete, and the one-thread run.
+pub fn alone_law<A>()
+    ensures legal { (workers : ℕ) (h : List Entry) → Legal workers h → many.Legal workers h }
+    ensures faithful { (meaning : Work → Program Wish Reply Ended) (script : Program Wish Reply A) (h : List Entry) → Faithful script h → many.Faithful meaning script h }
+    ensures complete { (meaning : Work → Program Wish Reply Ended) (script : Program Wish Reply A) (h : List Entry) → Faithful script h → Complete script h → many.Complete meaning script h }
+    ensures run { (meaning : Work → Program Wish Reply Ended) (script : Program Wish Reply A) (workers : ℕ) (h : List Entry) → OneThreadRun script workers h → many.OneThreadRun meaning script workers h }
 {}

@@ -31,9 +31,9 @@ impl Model for Names {
 
     ghost coded = { Prim.hlevel (codes, term.the_row.coded) };
 
-    ghost use Rattle.juses.specs.Keeping.{by_bytes};
+    ghost use Rattle.juses.specs.Tables.{by_items};
 
-    ghost view = { λ a. by_bytes (λ k. k.items) a.values.entries };
+    ghost view = { λ a. by_items (λ k. k.items) a.values.entries };
 }
 
 impl Names {
@@ -77,9 +77,9 @@ impl Model for Locales {
 
     ghost coded = { Prim.hlevel (codes, term.the_row.coded) };
 
-    ghost use Rattle.juses.specs.Keeping.{by_bytes};
+    ghost use Rattle.juses.specs.Tables.{by_items};
 
-    ghost view = { λ a. by_bytes (λ k. k.items) a.places.entries };
+    ghost view = { λ a. by_items (λ k. k.items) a.places.entries };
 }
 
 impl Locales {
