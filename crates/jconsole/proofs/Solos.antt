@@ -16,14 +16,17 @@ use Rattle.jsession.proofs.Programs.{does_begun, script_on, more_begun}
 use Rattle.juses.specs.Desk.{State as DeskState, first}
 use Rattle.juses.specs.Events.{Events, told, passing, closings}
 use Rattle.juses.specs.Histories.{Legal, Faithful, Once, OneThreadRun, prints}
-use Rattle.juses.specs.Keeping.{first_kept, first_tables}
+use Rattle.juses.specs.Keeping.{first_kept}
 use Rattle.juses.specs.Leading.{Leads, LeadsFrom, leads_on}
 use Rattle.juses.specs.OldestFirst.{taken, onto, history}
 use Rattle.juses.specs.Standing.{Kept, Refuses}
-use Rattle.juses.specs.Told.{Told, Replied, ◌followed_by◌}
+use Rattle.juses.specs.Entries.{entry}
+use Rattle.juses.specs.Told.{Told, Replied, Handed, NoneDue, ◌followed_by◌}
 use Rattle.juses.specs.declared.uses.Cause.{Cause}
 use Rattle.juses.specs.declared.uses.Entry.{Entry}
 use Rattle.juses.specs.declared.uses.Halt.TheVariants.{NoMemory}
+use Rattle.juses.specs.declared.uses.Use.TheVariants.{Begin}
+use Rattle.juses.specs.declared.uses.Reply.TheVariants.{Done}
 use Rattle.juses.proofs.Desks.{first_stands}
 use Rattle.juses.proofs.Doing.{both, told_both}
 use Rattle.juses.proofs.Runs.{a_run, once_run, one_thread, legal_history, faithful_history, complete_history, after_onto, printed_after, whole_run}
@@ -57,10 +60,14 @@ once_itself (e ∷ h) = inl refl
 once_onto : (p : List Entry) (xs : List Told) (h : List Entry) → Once p h → Once p (onto xs h)
 once_onto p [] h was = was
 once_onto p (Replied e ∷ xs) h was = once_onto p xs (e ∷ h) (inr was)
+once_onto p (Handed why task thread work ∷ xs) h was = once_onto p xs (entry task thread Begin Done ∷ h) (inr was)
+once_onto p (NoneDue why ∷ xs) h was = once_onto p xs h was
 
 onto_append : (xs ys : List Told) (h : List Entry) → onto (xs ++ ys) h ≡ onto ys (onto xs h)
 onto_append [] ys h = refl
 onto_append (Replied e ∷ xs) ys h = onto_append xs ys (e ∷ h)
+onto_append (Handed why task thread work ∷ xs) ys h = onto_append xs ys (entry task thread Begin Done ∷ h)
+onto_append (NoneDue why ∷ xs) ys h = onto_append xs ys h
 
 once_before : (es fs : Events) → Once (history (told es)) (history (told (both es fs)))
 once_before es fs =
@@ -73,7 +80,7 @@ Since es bytes closed d = Leads (first_kept 0) (record { told = told es; handed 
 
 module _ (d : Kept) (es : Events) (bytes : List ℕ) (closed : List Cause) (led : Since es bytes closed d) where
   from : LeadsFrom (first_kept 0) (first 0) (record { told = told es; handed = bytes; closed = closed }) d
-  from = led.from (first 0) (first_stands 0 first_tables [] refl refl)
+  from = led.from (first 0) (first_stands 0 (first_kept 0) refl)
 
   printed : (taken (first 0) (told es)).printed ≡ prints (history (told es))
   printed = ap (λ (s : DeskState). s.printed) (sym (after_onto 0 (told es) [])) ∙ printed_after 0 (history (told es))

@@ -102,6 +102,154 @@ fn scripts_and_their_prints(rt: HostRuntime) -> Result<(), Fail> {
 }
 
 #[test]
+fn verbs_on_whole_arrays(rt: HostRuntime) -> Result<(), Fail> {
+    let rows = [
+        // shapes, and arrays made of numbers
+        (
+            "i. 5\n2 3 $ i. 6\n$ 2 3 $ 7\n$ 5\n# 5 6 7\n# 5\n# 2 3 $ 7\n",
+            "0 1 2 3 4\n0 1 2\n3 4 5\n2 3\n\n3\n1\n2\n",
+        ),
+        (
+            "i. 2 3\ni. _3\ni. 2 _2\ni: 2\ni: _2\nI. 0 2 1\n",
+            "0 1 2\n3 4 5\n2 1 0\n1 0\n3 2\n_2 _1 0 1 2\n2 1 0 _1 _2\n1 1 2\n",
+        ),
+        ("i. 0 3\ni. 0\ni. 2 0\n", "\n\n\n"),
+        (
+            "(2 3 $ i. 6) + 10 20\n2 2 $ 'abc'\n4 $ 1 2 3\n0 $ ''\n",
+            "10 11 12\n23 24 25\nab\nca\n1 2 3 1\n\n",
+        ),
+        (
+            ", 2 2 $ 1 2 3 4\n,: 1 2\n$ ,: 1 2\n,. 2 2 2 $ i. 8\n$ ,. 5 6\n|: 2 3 $ i. 6\n",
+            "1 2 3 4\n1 2\n1 2\n0 1 2 3\n4 5 6 7\n2 1\n0 3\n1 4\n2 5\n",
+        ),
+        ("i. 2 2 2\n", "0 1\n2 3\n\n4 5\n6 7\n"),
+        // joining
+        (
+            "1 2 , 3\n5 , 6\n'ab' , 'c'\n'' , 1 2\n(i. 2 2) , 9\n(i. 2 2) , 5 6 7\n",
+            "1 2 3\n5 6\nabc\n1 2\n0 1\n2 3\n9 9\n0 1 0\n2 3 0\n5 6 7\n",
+        ),
+        (
+            "1 2 ,. 3 4\n1 2 ,: 3 4\n1 2 ,: 3\n1 2 ,: 3 4 5\n(i. 2 2) ,. 8 9\n",
+            "1 3\n2 4\n1 2\n3 4\n1 2\n3 3\n1 2 0\n3 4 5\n0 1 8\n2 3 9\n",
+        ),
+        // axes in another order
+        (
+            "0 |: i. 2 3\n_1 |: i. 2 3\n0 1 |: i. 2 3\n0 |: i. 2 2 2\n(2 1 $ 0 1) |: i. 2 2\n",
+            "0 3\n1 4\n2 5\n0 1 2\n3 4 5\n0 1 2\n3 4 5\n0 4\n1 5\n\n2 6\n3 7\n0 2\n1 3\n\n0 1\n2 3\n",
+        ),
+        // ends, turning and cutting
+        (
+            "3 {. 7 8\n_3 {. 7 8\n1 }. 7 8\n_1 }. 7 8\n3 }. 7 8\n",
+            "7 8 0\n0 7 8\n8\n7\n\n",
+        ),
+        (
+            "{. 4 5 6\n{: 4 5 6\n}. 4 5 6\n}: 4 5 6\n{. i. 0\n{: i. 0\n}. 5\n}: i. 0\n",
+            "4\n6\n5 6\n4 5\n0\n0\n\n\n",
+        ),
+        (
+            "{. i. 2 3\n{: i. 2 3\n}. i. 2 3\n}: i. 2 3\n|. i. 2 3\n",
+            "0 1 2\n3 4 5\n3 4 5\n0 1 2\n3 4 5\n0 1 2\n",
+        ),
+        (
+            "|. 1 2 3\n1 |. 1 2 3\n_1 |. 1 2 3\n1 |. 5\n1 2 |. 5\n1 1 |. i. 2 3\n",
+            "3 2 1\n2 3 1\n3 1 2\n5\n5\n4 5 3\n1 2 0\n",
+        ),
+        (
+            "1 2 {. i. 2 3\n_1 _4 {. i. 2 3\n2 {. 5\n1 }. i. 2 3\n0 1 }. i. 2 3\n4 {. 'ab'\n",
+            "0 1\n0 3 4 5\n5 0\n3 4 5\n1 2\n4 5\nab  \n",
+        ),
+        // picking
+        (
+            "1 0 2 # 5 6 7\n3 # 'ab'\n2 # 5\n1 0 1 # 5\n0 1 # i. 2 3\n",
+            "5 7 7\naaabbb\n5 5\n5 5\n3 4 5\n",
+        ),
+        (
+            "_1 { 4 5 6\n0 2 { 4 5 6\n1 { 2 3 $ i. 6\n2 {:: 4 5 6\n1 2 {:: i. 2 3\n2 { 'abc'\n",
+            "6\n4 6\n3 4 5\n6\n5\nc\n",
+        ),
+        (
+            "2 3 [ 4 5\n2 3 ] 4 5\n[ 4 5\n] 4 5\n",
+            "2 3\n4 5\n4 5\n4 5\n",
+        ),
+        // each cell of a verb's own rank by itself
+        (
+            "i. 2 1 $ 2 3\ni: 1 2\nI. 2 2 $ 1 0 0 2\n",
+            "0 1 0\n0 1 2\n_1  0 1 0 0\n_2 _1 0 1 2\n0 0\n1 1\n",
+        ),
+        (
+            "(2 1 $ 2 3) $ 5\n(2 1 $ 1 2) |. i. 3\n(2 1 $ 1 2) {. 7 8 9\n(2 1 $ 1 2) }. 7 8 9\n",
+            "5 5 0\n5 5 5\n1 2 0\n2 0 1\n7 0\n7 8\n8 9\n9 0\n",
+        ),
+        (
+            "(2 2 $ 1 0 0 2) # 5 6\n(2 2 $ 0 1 1 2) { 4 5 6\n(2 1 $ 0 2) {:: 4 5 6\n(i. 0) { i. 2 3\n$ (i. 0) { i. 2 3\n",
+            "5 0\n6 6\n4 5\n5 6\n4 6\n0 3\n",
+        ),
+        // boxes
+        (
+            "< 'abc'\n<5\n2 2 $ < 'ab'\n(<1 2) , < i. 2 2\n< ''\n< i. 0 0\n",
+            "+---+\n|abc|\n+---+\n+-+\n|5|\n+-+\n+--+--+\n|ab|ab|\n+--+--+\n|ab|ab|\n+--+--+\n+---+---+\n|1 2|0 1|\n|   |2 3|\n+---+---+\n++\n||\n++\n++\n++\n",
+        ),
+        (
+            "> < 1 2 3\n> (<1) , < 2 3\n> 5\nL. < < 5\nL. 1 2\n(<5) = < 5\n$ < 1 2\n# (<1) , < 2\n",
+            "1 2 3\n1 0\n2 3\n5\n2\n0\n1\n\n2\n",
+        ),
+    ];
+    for (script, prints) in rows {
+        let run = run_script(rt.alloc(), script.as_bytes(), 64, 0, 0)?;
+        assert_eq!(rt; run.status, Status::Done, "{script}");
+        assert_eq!(rt; run.printed.as_slice(), prints.as_bytes(), "{script}");
+    }
+    Ok(())
+}
+
+#[test]
+fn faults_of_verbs_on_whole_arrays(rt: HostRuntime) -> Result<(), Fail> {
+    let rows = [
+        ("5 { 1 2 3\n", "|index error\n|   5 { 1 2 3\n"),
+        ("_4 { 1 2 3\n", "|index error\n|   _4 { 1 2 3\n"),
+        ("'a' { 1 2 3\n", "|domain error\n|   'a' { 1 2 3\n"),
+        ("3 {:: 1 2\n", "|index error\n|   3 {:: 1 2\n"),
+        ("1 2 # 3 4 5\n", "|length error\n|   1 2 # 3 4 5\n"),
+        ("_1 # 5\n", "|domain error\n|   _1 # 5\n"),
+        ("'a' # 5\n", "|domain error\n|   'a' # 5\n"),
+        ("_1 $ 3\n", "|domain error\n|   _1 $ 3\n"),
+        ("2 $ ''\n", "|length error\n|   2 $ ''\n"),
+        ("2 $ i. 0\n", "|length error\n|   2 $ i. 0\n"),
+        ("20000 20000 $ 1\n", "|limit error\n|   20000 20000 $ 1\n"),
+        ("1 2 |. 1 2 3\n", "|length error\n|   1 2 |. 1 2 3\n"),
+        ("1 2 {. 1 2 3\n", "|length error\n|   1 2 {. 1 2 3\n"),
+        ("1 2 }. 1 2 3\n", "|length error\n|   1 2 }. 1 2 3\n"),
+        ("'a' {. 1\n", "|domain error\n|   'a' {. 1\n"),
+        ("i. 'a'\n", "|domain error\n|   i. 'a'\n"),
+        ("i. 200000000\n", "|limit error\n|   i. 200000000\n"),
+        ("i: 'a'\n", "|domain error\n|   i: 'a'\n"),
+        ("I. 1 _1\n", "|domain error\n|   I. 1 _1\n"),
+        ("0 0 |: i. 2 3\n", "|nonce error\n|   0 0 |: i. 2 3\n"),
+        ("2 |: i. 2 3\n", "|index error\n|   2 |: i. 2 3\n"),
+        ("'a' |: i. 2 3\n", "|domain error\n|   'a' |: i. 2 3\n"),
+        ("1 , 'a'\n", "|domain error\n|   1 , 'a'\n"),
+        ("1 2 ,. 3 4 5\n", "|length error\n|   1 2 ,. 3 4 5\n"),
+        ("1 ,: 'a'\n", "|domain error\n|   1 ,: 'a'\n"),
+        ("[: 3\n", "|domain error\n|   [: 3\n"),
+        ("2 [: 3\n", "|domain error\n|   2 [: 3\n"),
+        ("1 + < 2\n", "|domain error\n|   1 + < 2\n"),
+        ("> (<1) , < 'a'\n", "|domain error\n|   > (<1) , < 'a'\n"),
+        ("1 , < 2\n", "|domain error\n|   1 , < 2\n"),
+        // a valence that is left out
+        ("{ 5\n", "|nonce error\n|   { 5\n"),
+        ("1 {: 2\n", "|nonce error\n|   1 {: 2\n"),
+        ("1 }: 2\n", "|nonce error\n|   1 }: 2\n"),
+        ("3 -. 4\n", "|nonce error\n|   3 -. 4\n"),
+        ("0 T. 0\n", "|nonce error\n|   0 T. 0\n"),
+    ];
+    for (script, prints) in rows {
+        let run = run_script(rt.alloc(), script.as_bytes(), 64, 0, 0)?;
+        assert_eq!(rt; run.printed.as_slice(), prints.as_bytes(), "{script}");
+    }
+    Ok(())
+}
+
+#[test]
 fn faults_of_the_outside(rt: HostRuntime) -> Result<(), Fail> {
     let cut = run_script(rt.alloc(), b"1\n2\n", 64, 0, 2)?;
     assert_eq!(rt; cut.status, Status::WriteFault);
@@ -171,8 +319,7 @@ fn why_refused(byte: u8) -> &'static str {
         b'(' | b')' => "syntax error",
         b'\'' => "open quote",
         // listed words of which nothing is built
-        b',' | b';' | b'#' | b'$' | b'[' | b']' | b'{' | b'}' => "nonce error",
-        b'/' | b'\\' | b'~' | b'"' | b'@' | b'&' | b':' | b'_' => "nonce error",
+        b'}' | b'/' | b'\\' | b'~' | b'"' | b'@' | b'&' | b':' | b'_' => "nonce error",
         _ => "spelling error",
     }
 }
@@ -193,9 +340,23 @@ fn every_byte_alone(rt: HostRuntime) -> Result<(), Fail> {
         let wanted = match byte {
             b' ' | b'\t' | b'\r' | b'\n' => Vec::new(rt.alloc()),
             b'0'..=b'9' => Vec::from_slice(rt.alloc(), &[byte, b'\n'])?,
-            b'+' | b'-' | b'*' | b'%' | b'|' | b'^' | b'!' | b'<' | b'>' | b'=' => {
-                Vec::from_slice(rt.alloc(), b"verb\n")?
-            }
+            b'+'
+            | b'-'
+            | b'*'
+            | b'%'
+            | b'|'
+            | b'^'
+            | b'!'
+            | b'<'
+            | b'>'
+            | b'='
+            | b','
+            | b';'
+            | b'#'
+            | b'$'
+            | b'['
+            | b']'
+            | b'{' => Vec::from_slice(rt.alloc(), b"verb\n")?,
             _ => fault_of_byte(rt.alloc(), byte)?,
         };
         assert_eq!(rt; run.printed.as_slice(), wanted.as_slice(), "byte {byte}");

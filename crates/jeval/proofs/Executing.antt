@@ -4,14 +4,14 @@ use Rattle.std.proofs.lemmas.Bool.Decides.{nat_tests}
 use Rattle.jdata.specs.declared.fault.Fault.{Fault}
 use Rattle.jdata.specs.declared.fault.Fault.TheVariants.{Syntax}
 use Rattle.juses.specs.Program.{◌>>=◌}
-use Rattle.jeval.specs.declared.part.Part.{Part}
+use Rattle.jterm.specs.declared.part.Part.{Part}
 use Rattle.jeval.specs.declared.queue.Queued.{Queued}
 use Rattle.jeval.specs.declared.state.State.{State}
-use Rattle.jeval.specs.declared.parsing.Act.{Act}
-use Rattle.jeval.specs.declared.parsing.Act.TheVariants as act
+use Rattle.jparse.specs.declared.table.Act.{Act}
+use Rattle.jparse.specs.declared.table.Act.TheVariants as act
 use Rattle.jeval.specs.Action.{Action, Rest, gives, fails, going_on, ◌then◌}
 use Rattle.jeval.specs.Execution.{Ending, Acts, acted, late, by_row, read_on, ended, moved_in, is_assignment, executed, executed_within}
-use Rattle.jeval.specs.Parsing.{row_at, top_of, is_whole, act_or, act_of}
+use Rattle.jparse.specs.Parsing.{row_at, top_of, is_whole, act_or, act_of}
 use Rattle.jeval.proofs.Turning.{Within, Fewer, bind_alike, keeps_moved_in, falls_acted, late_row}
 
 by_row_alike : (o : Option ℕ) (f g : ℕ → Rest Ending) (x y : Rest Ending) → ((row : ℕ) → f row ≡ g row) → x ≡ y → by_row o f x ≡ by_row o g y

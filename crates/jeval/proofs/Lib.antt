@@ -4,6 +4,5 @@ pub mod Executing
 pub mod Stages
 pub mod Lines
 pub mod Kernels
-pub mod Classes
 pub mod Reading
 pub mod Splitting

@@ -1,5 +1,5 @@
 -- How what an activity did is put together.
-use Rattle.std.proofs.Common.{◌≡◌, refl, sym, ap, subst, ℕ, List, Result, Ok, Err, IsErr, IsErrAnd, IfOk, IfErr, OnErr}
+use Rattle.std.proofs.Common.{◌≡◌, refl, sym, ap, subst, ℕ, List, Result, Ok, Err, IsErr, IsErrAnd, IfOk, IfErr}
 use Rattle.jdata.specs.declared.fault.Fault.{Fault}
 use Rattle.juses.specs.Events.{Runs, RunsWhole}
 use Rattle.juses.specs.Program.{Program, Return, Ask, ◌>>=◌}
@@ -8,7 +8,7 @@ use Rattle.juses.specs.declared.uses.Halt.{Halt}
 use Rattle.juses.specs.declared.uses.Halt.TheVariants.{Wait, NoMemory, Closed}
 use Rattle.juses.specs.declared.uses.Reply.{Reply}
 use Rattle.juses.specs.Entries.{entry}
-use Rattle.juses.specs.Told.{nothing, replied}
+use Rattle.juses.specs.Told.{refusing, replied}
 use Rattle.juses.specs.Wishes.{Wish, Print, use_of}
 use Rattle.juses.specs.declared.uses.Use.{Use}
 use Rattle.juses.specs.declared.uses.Use.TheVariants as asked
@@ -18,7 +18,7 @@ use Rattle.jeval.specs.declared.end.EvalEnd.{EvalEnd}
 use Rattle.jeval.specs.declared.end.EvalEnd.TheVariants as end
 use Rattle.jeval.specs.declared.state.State.{State}
 use Rattle.jeval.specs.Action.{Action, asks, gives, fails, answers, going_on, ◌then◌}
-use Rattle.jeval.specs.Activity.{wish_of}
+use Rattle.jeval.specs.Activity.{IsAsked, wish_of}
 use Rattle.jeval.specs.Made.{Makes, Tells, Closes, Gives, Answers, settled, beside}
 
 module _ {S : Type 0} (uses : Relations S) where
@@ -76,26 +76,39 @@ module _ {S : Type 0} (uses : Relations S) where
 
 -- one use
 module _ {S : Type 0} (uses : Relations S) where
-  use_of_wish : (u : Use) → use_of (wish_of u) ≡ u
-  use_of_wish (asked.Read from name) = refl
-  use_of_wish (asked.Write place name value) = refl
-  use_of_wish (asked.Print bytes) = refl
+  use_of_wish : (u : Use) → IsAsked u → use_of (wish_of u) ≡ u
+  use_of_wish (asked.Read from name) h = refl
+  use_of_wish (asked.Write place name value) h = refl
+  use_of_wish (asked.Print bytes) h = refl
+  use_of_wish (asked.Start pool work) h = absurd h
+  use_of_wish asked.Begin h = absurd h
+  use_of_wish (asked.End outcome) h = absurd h
+  use_of_wish (asked.Open pyx) h = absurd h
+  use_of_wish asked.MakePyx h = absurd h
+  use_of_wish (asked.SetPyx pyx outcome) h = absurd h
+  use_of_wish asked.MakeMutex h = absurd h
+  use_of_wish (asked.Lock mutex) h = absurd h
+  use_of_wish (asked.Unlock mutex) h = absurd h
+  use_of_wish (asked.MakeThread pool) h = absurd h
+  use_of_wish asked.Threads h = absurd h
+  use_of_wish (asked.PoolState pool) h = absurd h
+  use_of_wish asked.Current h = absurd h
 
-  pub once : (who : List ℕ) (s t : S) (thread : ℕ) (q : Use) (r : Reply) → uses.leads s (replied (entry who thread q r)) t → Runs uses.leads uses.refuses who s t (Ask (wish_of q) Return) (Ok r)
-  once who s t thread q r l =
+  pub once : (who : List ℕ) (s t : S) (thread : ℕ) (q : Use) (r : Reply) → IsAsked q → uses.leads s (replied (entry who thread q r)) t → Runs uses.leads uses.refuses who s t (Ask (wish_of q) Return) (Ok r)
+  once who s t thread q r is l =
       let P : Use → Type 0 = λ u. uses.leads s (replied (entry who thread u r)) t in
-      asked_once uses who s t thread (wish_of q) r (subst P (sym (use_of_wish q)) l)
+      asked_once uses who s t thread (wish_of q) r (subst P (sym (use_of_wish q is)) l)
 
-  pub in_vain : (who : List ℕ) (s t : S) (q : Use) (halt : Halt) → uses.leads s nothing t → uses.refuses t who q halt → Runs uses.leads uses.refuses who s t (Ask (wish_of q) Return) (Err halt)
-  in_vain who s t q halt l said =
+  pub in_vain : (who : List ℕ) (s t : S) (q : Use) (halt : Halt) → IsAsked q → uses.leads s (refusing halt) t → uses.refuses t who q halt → Runs uses.leads uses.refuses who s t (Ask (wish_of q) Return) (Err halt)
+  in_vain who s t q halt is l said =
       let P : Use → Type 0 = λ u. uses.refuses t who u halt in
-      not_asked uses who s t (wish_of q) halt l (subst P (sym (use_of_wish q)) said)
+      not_asked uses who s t (wish_of q) halt l (subst P (sym (use_of_wish q is)) said)
 
-  pub asks_once : (a : Activity S) (t : S) (thread : ℕ) (q : Use) (r : Reply) → uses.leads a.uses (replied (entry a.who thread q r)) t
+  pub asks_once : (a : Activity S) (t : S) (thread : ℕ) (q : Use) (r : Reply) → IsAsked q → uses.leads a.uses (replied (entry a.who thread q r)) t
       → Makes uses.leads uses.refuses a (record a { uses = t }) (asks (wish_of q)) (Ok r)
-  asks_once a t thread q r l = record {
+  asks_once a t thread q r is l = record {
     same = refl;
-    made = goes_on uses a.who a.uses t t (Ask (wish_of q) Return) (λ reply. gives reply a.state) r (Ok (Ok r, a.state)) (once a.who a.uses t thread q r l) (returns uses a.who t (Ok r, a.state));
+    made = goes_on uses a.who a.uses t t (Ask (wish_of q) Return) (λ reply. gives reply a.state) r (Ok (Ok r, a.state)) (once a.who a.uses t thread q r is l) (returns uses a.who t (Ok r, a.state));
   }
 
   -- what ends with this fault
@@ -110,10 +123,10 @@ module _ {S : Type 0} (uses : Relations S) where
       record { same = h.same; made = subst P (sym is) h.made }
 
   -- a call of the uses, whatever it answers
-  pub called : (who : List ℕ) (s t : S) (thread : ℕ) (q : Use) (r : Result Reply Halt) → IfOk r (λ reply. uses.leads s (replied (entry who thread q reply)) t)
-      → OnErr r (uses.leads s nothing t) → IfErr r (λ why. uses.refuses t who q why) → Runs uses.leads uses.refuses who s t (Ask (wish_of q) Return) r
-  called who s t thread q (Ok reply) ok err halts = once who s t thread q reply ok
-  called who s t thread q (Err halt) ok err halts = in_vain who s t q halt err halts
+  pub called : (who : List ℕ) (s t : S) (thread : ℕ) (q : Use) (r : Result Reply Halt) → IsAsked q → IfOk r (λ reply. uses.leads s (replied (entry who thread q reply)) t)
+      → IfErr r (λ why. uses.leads s (refusing why) t) → IfErr r (λ why. uses.refuses t who q why) → Runs uses.leads uses.refuses who s t (Ask (wish_of q) Return) r
+  called who s t thread q (Ok reply) is ok err halts = once who s t thread q reply is ok
+  called who s t thread q (Err halt) is ok err halts = in_vain who s t q halt is err halts
 
   -- printing
   pub printed : {B : Type 0} (a : Activity S) (t : S) (thread : ℕ) (bytes : List ℕ) (shown : B) (r : Reply) → uses.leads a.uses (replied (entry a.who thread (asked.Print bytes) r)) t
@@ -123,7 +136,7 @@ module _ {S : Type 0} (uses : Relations S) where
     made = goes_on uses a.who a.uses t t (Ask (Print bytes) Return) (λ reply. Return (shown, a.state)) r (Ok (shown, a.state)) (asked_once uses a.who a.uses t thread (Print bytes) r l) (returns uses a.who t (shown, a.state));
   }
 
-  pub not_printed : {B : Type 0} (a : Activity S) (t : S) (bytes : List ℕ) (shown : B) (halt : Halt) (r : Result B Halt) → IsErr r × IsErrAnd r (λ w. w ≡ halt) → uses.leads a.uses nothing t → uses.refuses t a.who (asked.Print bytes) halt
+  pub not_printed : {B : Type 0} (a : Activity S) (t : S) (bytes : List ℕ) (shown : B) (halt : Halt) (r : Result B Halt) → IsErr r × IsErrAnd r (λ w. w ≡ halt) → uses.leads a.uses (refusing halt) t → uses.refuses t a.who (asked.Print bytes) halt
       → Tells uses.leads uses.refuses a (record a { uses = t }) (λ s. Ask (Print bytes) (λ reply. Return (shown, s))) r
   not_printed a t bytes shown halt (Ok b) said l refused = absurd said.1
   not_printed {B} a t bytes shown halt (Err w) said l refused =

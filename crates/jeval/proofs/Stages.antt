@@ -9,7 +9,7 @@ use Rattle.juses.specs.declared.uses.Use.{Use}
 use Rattle.juses.proofs.Doing.{Relations}
 use Rattle.jeval.specs.declared.activity.Activity.{Activity}
 use Rattle.jeval.specs.declared.end.EvalEnd.{EvalEnd}
-use Rattle.jeval.specs.declared.part.Part.{Part}
+use Rattle.jterm.specs.declared.part.Part.{Part}
 use Rattle.jeval.specs.declared.queue.Queued.{Queued}
 use Rattle.jeval.specs.Action.{Action, ◌then◌}
 use Rattle.jeval.specs.Execution.{acted, moved_in}

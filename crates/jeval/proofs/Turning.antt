@@ -10,8 +10,8 @@ use Rattle.jterm.specs.declared.term.Term.TheVariants as term
 use Rattle.juses.specs.Program.{Program, Return, Ask, ◌>>=◌}
 use Rattle.juses.specs.Wishes.{Wish}
 use Rattle.juses.specs.declared.uses.Reply.{Reply}
-use Rattle.jeval.specs.declared.part.Part.{Part}
-use Rattle.jeval.specs.declared.part.Part.TheVariants as part
+use Rattle.jterm.specs.declared.part.Part.{Part}
+use Rattle.jterm.specs.declared.part.Part.TheVariants as part
 use Rattle.jeval.specs.declared.queue.Queued.{Queued}
 use Rattle.jeval.specs.declared.queue.Queued.TheVariants.{Ready, Named}
 use Rattle.jeval.specs.declared.rows.Deed.{Deed}
@@ -19,12 +19,11 @@ use Rattle.jeval.specs.declared.rows.Deed.TheVariants.{Apply, Assign, Leave, Ref
 use Rattle.jeval.specs.declared.state.State.{State}
 use Rattle.jeval.specs.Action.{Action, asks, gives, fails, answers, going_on, ◌then◌, with_turn, with_left, turn_of}
 use Rattle.jeval.specs.Activity.{read, written}
-use Rattle.jeval.specs.Applying.{applied, referred, sought_in, verb_replied}
-use Rattle.jeval.specs.Execution.{moved_in, moved_value, value_of, term_of, assigned, done, acted, late}
-use Rattle.jeval.specs.Parsing.{fits, class_at}
+use Rattle.jeval.specs.Applying.{applied, refusal, referred, sought_in, verb_replied}
+use Rattle.jeval.specs.Execution.{moved_in, moved_value, value_of, plain_reference, term_of, assigned, done, acted, late}
+use Rattle.jparse.specs.Parsing.{awaits_target}
 use Rattle.jeval.specs.Rows.{is_built, deed_of, filled}
 use Rattle.jeval.specs.Verbs.{primitive}
-use Rattle.jeval.specs.declared.parsing.Group.TheVariants as group
 
 -- each answer that the program can end with is one of these
 abbrev pub AllEnd : {A : Type 0} → (A → Type 0) → Program Wish Reply A → Type 0
@@ -109,10 +108,18 @@ keeps_applied zero (term.Verb verb) x y s = omega arith
 keeps_applied (suc levels) (term.Verb verb) x y s = omega arith
 keeps_applied zero (term.Noun v) x y s = omega arith
 keeps_applied (suc levels) (term.Noun v) x y s = omega arith
+keeps_applied zero (term.Ranks l) x y s = omega arith
+keeps_applied (suc levels) (term.Ranks l) x y s = omega arith
+keeps_applied zero (term.Adverb w) x y s = omega arith
+keeps_applied (suc levels) (term.Adverb w) x y s = omega arith
+keeps_applied zero (term.Conj w) x y s = omega arith
+keeps_applied (suc levels) (term.Conj w) x y s = omega arith
 keeps_applied zero (term.Name name) x y s = keeps_turn (fails {A = Noun} Stack) (keeps_return {A = Noun} (Err Stack)) s
 keeps_applied (suc levels) (term.Name name) x y s =
     keeps_turn (referred name then (λ verb. applied levels verb x y))
     (keeps_then (referred name) (λ verb. applied levels verb x y) (keeps_sought_in name.place name.name) (λ verb. keeps_applied levels verb x y)) s
+keeps_applied zero other x y s = omega arith
+keeps_applied (suc levels) other x y s = omega arith
 
 keeps_assigned : (name : List ℕ) (o : Option Term) (value : Part) (rest : List Part) → Keeps (assigned name o value rest)
 keeps_assigned name (Some stands) value rest = keeps_then (written name stands) (λ reply. gives (value ∷ rest)) (keeps_written name stands) (λ reply. keeps_return (Ok (value ∷ rest)))
@@ -132,13 +139,13 @@ pub falls_acted : (levels row : ℕ) (parts : List Part) (s : State) → AllEnd 
 unfolding acted
 falls_acted levels row parts s = falls_if (is_built row) (done levels (deed_of row parts)) (keeps_done levels (deed_of row parts)) s
 
-keeps_name : (b : Bool) (name : List ℕ) (parts : List Part) → Keeps (if b then gives (part.Target name ∷ parts) else moved_value name parts)
-keeps_name true name parts = keeps_return (Ok (part.Target name ∷ parts))
+keeps_name : (b : Bool) (name : List ℕ) (parts : List Part) → Keeps (if b then gives (part.Target (plain_reference name) ∷ parts) else moved_value name parts)
+keeps_name true name parts = keeps_return (Ok (part.Target (plain_reference name) ∷ parts))
 keeps_name false name parts = keeps_then (read name) (λ reply. gives (value_of name reply ∷ parts)) (keeps_read name) (λ reply. keeps_return (Ok (value_of name reply ∷ parts)))
 
 pub keeps_moved_in : (next : Queued) (parts : List Part) → Keeps (moved_in next parts)
 keeps_moved_in (Ready p) parts = keeps_return (Ok (p ∷ parts))
-keeps_moved_in (Named name) parts = keeps_name (fits group.Copula (class_at 0 parts)) name parts
+keeps_moved_in (Named name) parts = keeps_name (awaits_target parts) name parts
 
 -- without a turn, and with one
 pub late_turn : {A : Type 0} (p : Action A) (s : State) → s.left ≡ 0 → with_turn p s ≡ fails TimeLimit s
@@ -168,10 +175,23 @@ unfolding applied
 applies_primitive zero verb x y s = refl
 applies_primitive (suc levels) verb x y s = refl
 
-pub applies_noun : (levels : ℕ) (v : Noun) (x : Option Noun) (y : Noun) (s : State) → applied levels (term.Noun v) x y s ≡ fails Domain s
+-- a term that isn't applied
+pub applies_refused : (levels : ℕ) (t : Term) (why : Fault) (x : Option Noun) (y : Noun) (s : State) → refusal t ≡ Some why → applied levels t x y s ≡ fails why s
 unfolding applied
-applies_noun zero v x y s = refl
-applies_noun (suc levels) v x y s = refl
+applies_refused zero (term.Verb verb) why x y s h = cc
+applies_refused (suc levels) (term.Verb verb) why x y s h = cc
+applies_refused zero (term.Name name) why x y s h = cc
+applies_refused (suc levels) (term.Name name) why x y s h = cc
+applies_refused zero (term.Noun v) why x y s h = cc
+applies_refused (suc levels) (term.Noun v) why x y s h = cc
+applies_refused zero (term.Ranks l) why x y s h = cc
+applies_refused (suc levels) (term.Ranks l) why x y s h = cc
+applies_refused zero (term.Adverb w) why x y s h = cc
+applies_refused (suc levels) (term.Adverb w) why x y s h = cc
+applies_refused zero (term.Conj w) why x y s h = cc
+applies_refused (suc levels) (term.Conj w) why x y s h = cc
+applies_refused zero other why x y s h = cc
+applies_refused (suc levels) other why x y s h = cc
 
 -- a reference without a turn, without a level, and with both
 pub name_is_late : (levels : ℕ) (name : Locative) (x : Option Noun) (y : Noun) (s : State) → s.left ≡ 0 → applied levels (term.Name name) x y s ≡ fails TimeLimit s

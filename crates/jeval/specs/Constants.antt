@@ -1,6 +1,7 @@
 -- The nouns that words of numbers and quoted texts stand for (J Dictionary, "Constants"): one number or one character is
 -- an atom, several are a list.
-use Rattle.std.specs.Prelude.{ℕ, ℤ, ◌==◌, ◌-◌, Bool, true, false, if◌then◌else◌, List, [], ◌∷◌, ◌++◌, take, drop, length, map, Option, Some, None, Result, Ok, Err, option_and_then}
+use Rattle.std.specs.Prelude.{ℕ, ℤ, ◌==◌, ◌-◌, if◌then◌else◌, List, [], ◌∷◌, ◌++◌, take, drop, length, map, Option, Some, None, Result, Ok, Err, option_map, option_and_then}
+use Rattle.std.specs.List.{slice_split}
 use Rattle.jdata.specs.Limits.{checked}
 use Rattle.jdata.specs.Noun.{noun, int_atom}
 use Rattle.jdata.specs.declared.noun.Noun.{Noun}
@@ -15,29 +16,23 @@ use Rattle.jwords.specs.Numbers.{is_number}
 abbrev pub number : List ℕ → Option ℤ
 number run = if is_number run then Some (number_in run) else None
 
-abbrev pub and_number : Option (List ℤ) → Option ℤ → Option (List ℤ)
-and_number (Some before) (Some n) = Some (before ++ n ∷ [])
-and_number before other = None
+-- these numbers and then those, where there are both
+abbrev pub joined : Option (List ℤ) → Option (List ℤ) → Option (List ℤ)
+joined (Some ns) (Some others) = Some (ns ++ others)
+joined one other = None
 
--- the numbers before, and that of this run where there is one
-abbrev pub with_run : Option (List ℤ) → List ℕ → Option (List ℤ)
-with_run before [] = before
-with_run before (byte ∷ run) = and_number before (number (byte ∷ run))
+-- the numbers of a run: one, and none between two blanks that stand together
+abbrev pub numbers_of : List ℕ → Option (List ℤ)
+numbers_of [] = Some []
+numbers_of (byte ∷ run) = option_map (λ n. n ∷ []) (number (byte ∷ run))
 
--- the numbers before, those of the run that was begun, and those behind it; blanks part the runs
-abbrev pub numbers_from : Option (List ℤ) → List ℕ → List ℕ → Option (List ℤ)
-numbers_from before run [] = with_run before run
-numbers_from before run (byte ∷ rest) =
-    if is_blank byte then numbers_from (with_run before run) [] rest else numbers_from before (run ++ byte ∷ []) rest
+abbrev pub numbers_in : List (List ℕ) → Option (List ℤ)
+numbers_in [] = Some []
+numbers_in (run ∷ runs) = joined (numbers_of run) (numbers_in runs)
 
--- what the code answers beside the numbers that it keeps: whether the run was one
-abbrev pub answered : Bool → List ℤ → Option (List ℤ)
-answered true ns = Some ns
-answered false ns = None
-
--- the numbers of a word
+-- the numbers of a word, whose runs are parted by blanks
 abbrev pub numbers : List ℕ → Option (List ℤ)
-numbers word = numbers_from (Some []) [] word
+numbers word = numbers_in (slice_split is_blank word)
 
 -- an array is within its limits, and no line is long enough for a list beyond them
 abbrev pub if_array : Result Noun BadTree → Option Noun
@@ -56,10 +51,10 @@ abbrev pub number_noun : List ℕ → Option Noun
 number_noun word = option_and_then integers (numbers word)
 
 -- the characters between the quotes; of two quotes that stand together the second is left away
-abbrev pub characters : Bool → List ℕ → List ℕ
-characters doubled [] = []
-characters true (byte ∷ rest) = characters false rest
-characters false (byte ∷ rest) = byte ∷ characters (byte == quote) rest
+abbrev pub characters : List ℕ → List ℕ
+characters [] = []
+characters (byte ∷ []) = byte ∷ []
+characters (byte ∷ next ∷ rest) = byte ∷ (if byte == quote then characters rest else characters (next ∷ rest))
 
 abbrev pub inside : List ℕ → List ℕ
 inside word = take (length word - 2) (drop 1 word)
@@ -73,4 +68,4 @@ text bytes = if_array (checked (noun (text_shape bytes) sort.Char (map atom.Char
 
 -- the noun of a quoted text
 abbrev pub text_noun : List ℕ → Option Noun
-text_noun word = text (characters false (inside word))
+text_noun word = text (characters (inside word))

@@ -27,8 +27,10 @@ moved_on e uses state = record e { uses = uses; state = state }
 
 abbrev pub IsVerb : Term → Type 0
 IsVerb (term.Noun v) = ⊥
-IsVerb (term.Verb verb) = Unit {0}
-IsVerb (term.Name name) = Unit {0}
+IsVerb (term.Ranks numbers) = ⊥
+IsVerb (term.Adverb word) = ⊥
+IsVerb (term.Conj word) = ⊥
+IsVerb verb = Unit {0}
 
 -- the noun of an argument, and of a result
 abbrev pub noun_of : Option Placed → Option Noun

@@ -8,8 +8,8 @@ use Rattle.jterm.specs.declared.term.Term.TheVariants as term
 use Rattle.juses.specs.Program.{◌>>=◌}
 use Rattle.juses.specs.declared.uses.Reply.{Reply}
 use Rattle.juses.specs.declared.uses.Reply.TheVariants as reply
-use Rattle.jeval.specs.declared.part.Part.{Part}
-use Rattle.jeval.specs.declared.part.Part.TheVariants as part
+use Rattle.jterm.specs.declared.part.Part.{Part}
+use Rattle.jterm.specs.declared.part.Part.TheVariants as part
 use Rattle.jeval.specs.declared.queue.Queued.{Queued}
 use Rattle.jeval.specs.declared.queue.Queued.TheVariants.{Ready, Named}
 use Rattle.jeval.specs.declared.rows.Deed.{Deed}
@@ -17,8 +17,7 @@ use Rattle.jeval.specs.declared.rows.Deed.TheVariants.{Apply, Assign, Leave, Ref
 use Rattle.jeval.specs.Action.{Action, Rest, gives, fails, going_on, ◌then◌, with_turn}
 use Rattle.jeval.specs.Activity.{read, written}
 use Rattle.jeval.specs.Applying.{applied}
-use Rattle.jeval.specs.Parsing.{row_at, top_of, is_whole, class_at, fits}
-use Rattle.jeval.specs.declared.parsing.Group.TheVariants as group
+use Rattle.jparse.specs.Parsing.{row_at, top_of, is_whole, awaits_target}
 use Rattle.jeval.specs.Rows.{filled, is_built, deed_of}
 
 abbrev pub plain_reference : List ℕ → Locative
@@ -28,20 +27,21 @@ plain_reference name = record { name = name; place = None }
 abbrev pub reference_part : List ℕ → Bool → Part
 reference_part name found = part.Verb (term.Name (plain_reference name)) found
 
--- what a name is as it is moved: a noun's value, or a reference
+-- what a name is as it is moved: a noun, an adverb or a conjunction by value, or a reference
 abbrev pub value_of : List ℕ → Reply → Part
 value_of name (reply.Named (term.Noun v)) = part.Noun v
-value_of name (reply.Named (term.Verb verb)) = reference_part name true
-value_of name (reply.Named (term.Name other)) = reference_part name true
-value_of name reply.Nothing = reference_part name false
-value_of name reply.Done = reference_part name false
+value_of name (reply.Named (term.Ranks numbers)) = part.Ranks numbers
+value_of name (reply.Named (term.Adverb word)) = part.Adverb word
+value_of name (reply.Named (term.Conj word)) = part.Conj word
+value_of name (reply.Named verb) = reference_part name true
+value_of name _ = reference_part name false
 
 abbrev pub moved_value : List ℕ → List Part → Action (List Part)
 moved_value name parts = read name then (λ reply. gives (value_of name reply ∷ parts))
 
 -- a name in front of these parts: a target, where a copula comes next
 abbrev pub moved_name : List ℕ → List Part → Action (List Part)
-moved_name name parts = if fits group.Copula (class_at 0 parts) then gives (part.Target name ∷ parts) else moved_value name parts
+moved_name name parts = if awaits_target parts then gives (part.Target (plain_reference name) ∷ parts) else moved_value name parts
 
 -- a word is read
 abbrev pub moved_in : Queued → List Part → Action (List Part)
@@ -51,7 +51,10 @@ moved_in (Named name) parts = moved_name name parts
 -- what a name can stand for: the value of a part
 abbrev pub term_of : Part → Option Term
 term_of (part.Noun value) = Some (term.Noun value)
+term_of (part.Ranks numbers) = Some (term.Ranks numbers)
 term_of (part.Verb verb found) = Some verb
+term_of (part.Adverb word) = Some (term.Adverb word)
+term_of (part.Conj word) = Some (term.Conj word)
 term_of other = None
 
 abbrev pub assigned : List ℕ → Option Term → Part → List Part → Action (List Part)

@@ -3,7 +3,6 @@ pub mod Activity
 pub mod Made
 pub mod Verbs
 pub mod Applying
-pub mod Parsing
 pub mod Rows
 pub mod Constants
 pub mod Queue

@@ -5,25 +5,16 @@ use Rattle.std.specs.Str.{bytes_eq}
 use Rattle.jdata.specs.declared.fault.NoMemory.{NoMemory}
 use Rattle.jdata.specs.declared.noun.Noun.{Noun}
 use Rattle.jdata.specs.declared.primitive.Primitive.{Primitive}
-use Rattle.jdata.specs.Spelling as spelling
+use Rattle.jdata.specs.Spelling.{verb_of}
 use Rattle.jterm.specs.declared.term.Term.TheVariants as term
 use Rattle.jwords.specs.Alphabet.{underscore}
-use Rattle.jeval.specs.Verbs.{is_built}
 use Rattle.jeval.specs.Constants.{number_noun, text_noun}
 use Rattle.jwords.specs.declared.word.Word.{Word}
 use Rattle.jwords.specs.declared.word.WordKind.{WordKind}
 use Rattle.jwords.specs.declared.word.WordKind.TheVariants as word
-use Rattle.jeval.specs.declared.part.Part.TheVariants as part
+use Rattle.jterm.specs.declared.part.Part.TheVariants as part
 use Rattle.jeval.specs.declared.queue.Queued.{Queued}
 use Rattle.jeval.specs.declared.queue.Queued.TheVariants.{Ready, Named}
-
-abbrev pub if_built : Option Primitive → Option Primitive
-if_built (Some verb) = if is_built verb then Some verb else None
-if_built None = None
-
--- the verb that a graphic word spells, where something of it is built
-abbrev pub verb_of : List ℕ → Option Primitive
-verb_of run = if_built (spelling.verb_of run)
 
 abbrev pub is_copula : List ℕ → Bool
 is_copula run = if bytes_eq run (codes "=.") then true else bytes_eq run (codes "=:")
@@ -32,11 +23,15 @@ abbrev pub verb_part : Option Primitive → Option Queued
 verb_part (Some verb) = Some (Ready (part.Verb (term.Verb verb) true))
 verb_part None = None
 
+-- the verb that a word spells
+abbrev pub verb_item : List ℕ → Option Queued
+verb_item run = verb_part (verb_of run)
+
 abbrev pub symbol : List ℕ → Option Queued
 symbol run =
-    if is_copula run then Some (Ready part.Copula) else
+    if is_copula run then Some (Ready (part.Copula (bytes_eq run (codes "=.")))) else
     if bytes_eq run (codes "(") then Some (Ready part.Left) else
-    if bytes_eq run (codes ")") then Some (Ready part.Right) else verb_part (verb_of run)
+    if bytes_eq run (codes ")") then Some (Ready part.Right) else verb_item run
 
 -- another byte than an underscore stands behind
 abbrev pub is_followed : List ℕ → Bool
@@ -70,7 +65,7 @@ abbrev pub item_of : WordKind → List ℕ → Option Queued
 item_of word.Name run = name_item run
 item_of word.Number run = noun_part (number_noun run)
 item_of word.Graphic run = symbol run
-item_of word.Inflected run = None
+item_of word.Inflected run = verb_item run
 item_of word.Text run = noun_part (text_noun run)
 item_of word.Comment run = None
 

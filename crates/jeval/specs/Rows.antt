@@ -7,9 +7,10 @@ use Rattle.jdata.specs.Noun.{kind}
 use Rattle.jdata.specs.declared.noun.Kind.{Kind}
 use Rattle.jdata.specs.declared.noun.Kind.TheVariants as sort
 use Rattle.jdata.specs.declared.noun.Noun.{Noun}
+use Rattle.jterm.specs.declared.term.Locative.{Locative}
 use Rattle.jterm.specs.declared.term.Term.{Term}
-use Rattle.jeval.specs.declared.part.Part.{Part}
-use Rattle.jeval.specs.declared.part.Part.TheVariants as part
+use Rattle.jterm.specs.declared.part.Part.{Part}
+use Rattle.jterm.specs.declared.part.Part.TheVariants as part
 use Rattle.jeval.specs.declared.rows.Around.{Around}
 use Rattle.jeval.specs.declared.rows.Deed.{Deed}
 use Rattle.jeval.specs.declared.rows.Deed.TheVariants.{Apply, Assign, Leave, Refuse}
@@ -60,9 +61,17 @@ noun_as_target sort.Char = Nonce
 noun_as_target sort.Int = Domain
 noun_as_target sort.Boxed = Domain
 
--- the name of a target
+-- the name of a target; a name in a locale isn't built
+abbrev pub in_place : Option (List ℕ) → List ℕ → Result (List ℕ) Fault
+in_place None name = Ok name
+in_place (Some place) name = Err Nonce
+
+abbrev pub plain_name : Locative → Result (List ℕ) Fault
+plain_name target = in_place target.place target.name
+
 abbrev pub target_name : Part → Result (List ℕ) Fault
-target_name (part.Target name) = Ok name
+target_name (part.Target target) = plain_name target
+target_name (part.Ranks numbers) = Err Domain
 target_name (part.Noun target) = Err (noun_as_target (kind target))
 target_name other = Err Syntax
 

@@ -4,24 +4,16 @@ use Rattle.jdata.specs.Faults.{text_of}
 use Rattle.jdata.specs.declared.fault.Fault.{Fault}
 use Rattle.jdata.specs.declared.fault.Fault.TheVariants as fault
 use Rattle.jdata.specs.declared.noun.Noun.{Noun}
-use Rattle.jdata.specs.Noun.{kind}
-use Rattle.jdata.specs.declared.noun.Kind.{Kind}
-use Rattle.jdata.specs.declared.noun.Kind.TheVariants as sort
 use Rattle.jformat.specs.Rows.{display_of}
 use Rattle.jwords.specs.Alphabet.{line_feed}
 use Rattle.jwords.specs.Trim.{trimmed}
 use Rattle.jeval.specs.Execution.{Ending}
-use Rattle.jeval.specs.declared.part.Part.{Part}
-use Rattle.jeval.specs.declared.part.Part.TheVariants as part
+use Rattle.jterm.specs.declared.part.Part.{Part}
+use Rattle.jterm.specs.declared.part.Part.TheVariants as part
 
-abbrev pub is_boxed : Kind → Bool
-is_boxed sort.Boxed = true
-is_boxed sort.Int = false
-is_boxed sort.Char = false
-
--- the rows of a noun; those of boxes aren't built
+-- the rows of a noun
 abbrev pub rows : Noun → Result (Option (List ℕ)) Fault
-rows v = if is_boxed (kind v) then Err fault.Nonce else Ok (Some (display_of v))
+rows v = Ok (Some (display_of v))
 
 abbrev pub verb_row : List ℕ
 verb_row = codes "verb" ++ line_feed ∷ []

@@ -1,16 +1,10 @@
 -- The primitive verbs by the table of primitives: with a left argument or without.
-use Rattle.std.specs.Prelude.{◌||◌, Bool, is_some, Option, Some, None, Result}
+use Rattle.std.specs.Prelude.{Option, Some, None, Result}
 use Rattle.jdata.specs.declared.noun.Noun.{Noun}
 use Rattle.jdata.specs.declared.primitive.Primitive.{Primitive}
 use Rattle.jdata.specs.declared.fault.Fault.{Fault}
 use Rattle.jprim.specs.Monads as monads
 use Rattle.jprim.specs.Dyads as dyads
-use Rattle.jscalar.specs.Monads.{monad_on}
-use Rattle.jscalar.specs.Dyads.{dyad_on}
-
--- the scalar verbs are built
-abbrev pub is_built : Primitive → Bool
-is_built verb = is_some (monad_on verb) || is_some (dyad_on verb)
 
 abbrev pub monad : Primitive → Noun → Result Noun Fault
 monad verb y = monads.given (monads.monad_of verb) y

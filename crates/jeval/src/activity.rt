@@ -27,6 +27,7 @@ pub(crate) struct Activity<U> {
 impl<U: Uses> Activity<U> {
     /// One use, and its reply or why there is none.
     pub(crate) fn call(&mut self, asked: Use) -> Result<Reply, Halt>
+        requires { activity.IsAsked asked }
         ensures same { self.new ≡ record self.old { uses = self.new.uses } }
         ensures made { Runs U.leads U.refuses self.old.who self.old.uses self.new.uses (Ask (activity.wish_of asked) Return) result }
     {
@@ -35,6 +36,7 @@ impl<U: Uses> Activity<U> {
 
     /// One use of an evaluation, and its reply.
     pub(crate) fn ask(&mut self, asked: Use) -> Result<Reply, EvalEnd>
+        requires { activity.IsAsked asked }
         ensures { Makes U.leads U.refuses self.old self.new (asks (activity.wish_of asked)) result }
     {
         match self.uses.call(self.who, asked) {

@@ -5,15 +5,40 @@ ghost use Rattle.juses.specs.Events.{RunsWhole};
 ghost use Rattle.jeval.specs.Made.{Makes, settled};
 
 use crate::activity::Activity;
-use crate::datum::Datum;
 use crate::end::EvalEnd;
 use crate::verbs::primitive;
-use jdata::{Fault, Name};
-use jterm::{Locative, Term};
+use jdata::{Fault, Name, Primitive};
+use jterm::{Datum, Locative, Term};
 use juses::{Reply, Uses};
 
 /// How many applications of verbs that aren't primitive may be nested.
 pub(crate) const MOST_LEVELS: u64 = 200;
+
+/// How a term is applied.
+enum Way<'a> {
+    Primitive(Primitive),
+    Reference(&'a Locative),
+    Refused(Fault),
+}
+
+// A constant verb, a modifier with its operands and a train aren't built.
+fn way_of(verb: &Term) -> Way<'_>
+    ensures { applying.IsWay verb.now result }
+{
+    match verb {
+        Term::Verb(verb) => Way::Primitive(*verb),
+        Term::Name(reference) => Way::Reference(reference),
+        Term::Noun(_) => Way::Refused(Fault::Domain),
+        Term::Ranks(_) => Way::Refused(Fault::Domain),
+        Term::Adverb(_) => Way::Refused(Fault::Domain),
+        Term::Conj(_) => Way::Refused(Fault::Domain),
+        Term::Const(_) => Way::Refused(Fault::Nonce),
+        Term::With1 { .. } => Way::Refused(Fault::Nonce),
+        Term::With2 { .. } => Way::Refused(Fault::Nonce),
+        Term::Hook { .. } => Way::Refused(Fault::Nonce),
+        Term::Fork { .. } => Way::Refused(Fault::Nonce),
+    }
+}
 
 // The verb that a name has as its value.
 fn verb_replied(reply: Reply) -> Result<Term, Fault>
@@ -21,9 +46,11 @@ fn verb_replied(reply: Reply) -> Result<Term, Fault>
 {
     match reply {
         Reply::Named(Term::Noun(_)) => Err(Fault::Domain),
+        Reply::Named(Term::Ranks(_)) => Err(Fault::Domain),
+        Reply::Named(Term::Adverb(_)) => Err(Fault::Domain),
+        Reply::Named(Term::Conj(_)) => Err(Fault::Domain),
         Reply::Named(verb) => Ok(verb),
-        Reply::Nothing => Err(Fault::Value),
-        Reply::Done => Err(Fault::Value),
+        _ => Err(Fault::Value),
     }
 }
 
@@ -59,10 +86,10 @@ impl<U: Uses> Activity<U> {
     ) -> Result<Datum, EvalEnd>
         ensures { Makes U.leads U.refuses self.old self.new (applying.applied levels verb.now x y) result }
     {
-        match verb {
-            Term::Verb(verb) => primitive(self.alloc, &mut self.room, *verb, x, y),
-            Term::Noun(_) => Err(EvalEnd::Fault(Fault::Domain)),
-            Term::Name(reference) => {
+        match way_of(verb) {
+            Way::Primitive(verb) => primitive(self.alloc, &mut self.room, verb, x, y),
+            Way::Refused(fault) => Err(EvalEnd::Fault(fault)),
+            Way::Reference(reference) => {
                 if !self.state.take_turn() {
                     return Err(EvalEnd::Fault(Fault::TimeLimit));
                 }

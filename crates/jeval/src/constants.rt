@@ -1,13 +1,13 @@
 //! The nouns of number words and of quoted texts.
-ghost use Rattle.std.specs.Prelude.{◌≡◌, IfOk, Some, false, option_map};
+ghost use Rattle.std.specs.Prelude.{◌≡◌, IfOk, Some, option_map};
 ghost use Rattle.jdata.specs.Limits.{checked};
 ghost use Rattle.jdata.specs.Trees.{noun_of};
 ghost use Rattle.jeval.specs.Constants as constants;
 
-use crate::datum::Datum;
 use jarray::Array;
 use jdata::{Bytes, IntList, Leaves, NoMemory, Tree};
 use jnumber::{Read, read};
+use jterm::Datum;
 use jwords::is_blank;
 use std::alloc::Global;
 
@@ -21,18 +21,18 @@ fn number(run: &[u8]) -> Option<i64>
     }
 }
 
-// Puts the number of a run behind those before it; whether the run, if there is one, is a number.
-fn push_run(numbers: &mut Vec<i64>, run: &[u8]) -> Result<bool, NoMemory>
-    ensures { IfOk result (λ is_number. constants.answered is_number numbers.new.items ≡ constants.with_run (Some numbers.old.items) run.now) }
+// The numbers before, and that of a run behind them; none where the run is no number.
+fn with_run(mut numbers: Vec<i64>, run: &[u8]) -> Result<Option<Vec<i64>>, NoMemory>
+    ensures { IfOk result (λ given. option_map (λ ns. ns.items) given ≡ constants.joined (Some numbers.items) (constants.numbers_of run.now)) }
 {
     if run.is_empty() {
-        return Ok(true);
+        return Ok(Some(numbers));
     }
     let Some(number) = number(run) else {
-        return Ok(false);
+        return Ok(None);
     };
     match numbers.push(number) {
-        Ok(()) => Ok(true),
+        Ok(()) => Ok(Some(numbers)),
         Err(_) => Err(NoMemory),
     }
 }
@@ -47,17 +47,13 @@ fn numbers(alloc: Global, word: &[u8]) -> Result<Option<Vec<i64>>, NoMemory>
         if !is_blank(*byte) {
             continue;
         }
-        match push_run(&mut numbers, &word[start..i]) {
-            Ok(true) => start = i + 1,
-            Ok(false) => return Ok(None),
-            Err(NoMemory) => return Err(NoMemory),
+        match with_run(numbers, &word[start..i])? {
+            Some(more) => numbers = more,
+            None => return Ok(None),
         }
+        start = i + 1;
     }
-    match push_run(&mut numbers, &word[start..]) {
-        Ok(true) => Ok(Some(numbers)),
-        Ok(false) => Ok(None),
-        Err(NoMemory) => Err(NoMemory),
-    }
+    with_run(numbers, &word[start..])
 }
 
 fn array(shape: Vec<u64>, items: Leaves) -> Option<Datum>
@@ -94,7 +90,7 @@ pub(crate) fn number_noun(alloc: Global, word: &[u8]) -> Result<Option<Datum>, N
 
 // The characters between the quotes of a word.
 fn characters(alloc: Global, inside: &[u8]) -> Result<Vec<u8>, NoMemory>
-    ensures { IfOk result (λ bytes. bytes.items ≡ constants.characters false inside.now) }
+    ensures { IfOk result (λ bytes. bytes.items ≡ constants.characters inside.now) }
 {
     let mut bytes = Vec::new(alloc);
     let mut doubled = false;

@@ -6,19 +6,18 @@ ghost use Rattle.juses.specs.Keys.{base_locale};
 ghost use Rattle.juses.specs.Program.{Ask, Return};
 ghost use Rattle.juses.specs.Told.{handed_out, closed_with};
 ghost use Rattle.juses.specs.declared.uses.Cause.TheVariants as causes;
-ghost use Rattle.jeval.specs.Activity.{wish_of};
+ghost use Rattle.jeval.specs.Activity.{IsAsked, wish_of};
 ghost use Rattle.jeval.specs.Applying.{applied, most_levels};
 ghost use Rattle.jeval.specs.Made.{beside, settled};
 ghost use Rattle.jeval.specs.Sentence as sentences;
 
 use crate::activity::Activity;
-use crate::datum::Datum;
 use crate::end::EvalEnd;
 use crate::sentence::Shown;
 use crate::state::State;
 use jarray::{Array, Room};
 use jdata::{Bytes, Name, Path};
-use jterm::Term;
+use jterm::{Datum, Term};
 use juses::{Cause, Halt, Reply, Use, Uses};
 use std::alloc::Global;
 use std::marker::Model;
@@ -104,6 +103,7 @@ impl<U: Uses> Eval<U> {
 
     /// Makes one use of the activity.
     pub fn ask(&mut self, asked: Use) -> Result<Reply, Halt>
+        requires { IsAsked asked }
         ensures uses { Runs U.leads U.refuses self.old.who self.old.uses self.new.uses (Ask (wish_of asked) Return) result }
         ensures same { self.new ≡ moved_on self.old self.new.uses self.old.state }
     {

@@ -4,24 +4,28 @@ ghost use Rattle.jeval.specs.Execution as execution;
 ghost use Rattle.jeval.specs.Made.{Makes};
 
 use crate::activity::Activity;
-use crate::datum::Datum;
 use crate::end::{EvalEnd, NO_MEMORY};
-use crate::parsing::{Act, Group, step};
-use crate::part::Part;
 use crate::queue::Queued;
 use crate::rows::{Deed, deed_of, is_built};
 use crate::stack::{Parts, Stack, pushed};
 use jarray::{Array, Room};
 use jdata::{Fault, Name, NoMemory};
-use jterm::{Locative, Term};
+use jparse::Act;
+use jterm::{Datum, Locative, Part, Term};
 use juses::{Reply, Uses};
 use std::alloc::Global;
+
+fn plain(name: Name) -> Locative
+    ensures { result ≡ execution.plain_reference name }
+{
+    Locative { name, place: None }
+}
 
 fn reference(name: Name, found: bool) -> Part
     ensures { result ≡ execution.reference_part name found }
 {
     Part::Verb {
-        term: Term::Name(Locative { name, place: None }),
+        term: Term::Name(plain(name)),
         found,
     }
 }
@@ -32,9 +36,11 @@ fn value_of(name: Name, reply: Reply) -> Part
 {
     match reply {
         Reply::Named(Term::Noun(value)) => Part::Noun(Datum::of(Array::of(value))),
+        Reply::Named(Term::Ranks(numbers)) => Part::Ranks(numbers),
+        Reply::Named(Term::Adverb(word)) => Part::Adverb(word),
+        Reply::Named(Term::Conj(word)) => Part::Conj(word),
         Reply::Named(_) => reference(name, true),
-        Reply::Nothing => reference(name, false),
-        Reply::Done => reference(name, false),
+        _ => reference(name, false),
     }
 }
 
@@ -44,7 +50,10 @@ fn term_of(alloc: Global, room: &Room, part: &Part) -> Result<Option<Term>, NoMe
 {
     match part {
         Part::Noun(value) => Ok(Some(Term::Noun(value.array().tree(alloc, room)?))),
+        Part::Ranks(numbers) => Ok(Some(Term::Ranks(numbers.copy(alloc)?))),
         Part::Verb { term, .. } => Ok(Some(term.copy(alloc)?)),
+        Part::Adverb(word) => Ok(Some(Term::Adverb(*word))),
+        Part::Conj(word) => Ok(Some(Term::Conj(*word))),
         _ => Ok(None),
     }
 }
@@ -68,8 +77,8 @@ impl<U: Uses> Activity<U> {
     fn move_name(&mut self, name: Name, parts: Parts) -> Result<Parts, EvalEnd>
         ensures { Makes U.leads U.refuses self.old self.new (execution.moved_name name parts) result }
     {
-        if Group::Copula.fits(parts.class(0)) {
-            pushed(parts, Part::Target(name))
+        if parts.awaits_target() {
+            pushed(parts, Part::Target(plain(name)))
         } else {
             self.move_value(name, parts)
         }
@@ -139,7 +148,7 @@ impl<U: Uses> Activity<U> {
         let mut parts = Stack::new(self.alloc);
         let mut assigned = false;
         loop {
-            match step(&parts, queue.len()) {
+            match parts.step(queue.len()) {
                 Act::Shift => {
                     let Some(item) = queue.pop() else {
                         unreachable!()

@@ -2,8 +2,8 @@
 ghost use Rattle.std.specs.Prelude.{◌≡◌, ◌≤◌, ℕ, Bool, List, [], ◌∷◌, Some, None};
 ghost use Rattle.jeval.specs.Action.{◌then◌};
 ghost use Rattle.jeval.specs.Execution.{executed, executed_within, ended, acted, moved_in, is_assignment};
-ghost use Rattle.jeval.specs.Parsing.{row_at};
-ghost use Rattle.jeval.specs.declared.part.Part.{Part};
+ghost use Rattle.jparse.specs.Parsing.{row_at};
+ghost use Rattle.jterm.specs.declared.part.Part.{Part};
 ghost use Rattle.jeval.specs.declared.queue.Queued.{Queued};
 ghost use Rattle.jeval.specs.declared.state.State.{State};
 

@@ -4,12 +4,9 @@ ghost use Rattle.jeval.specs.Queue as queues;
 ghost use Rattle.jeval.specs.declared.queue.Queued.TheVariants.{Named as named};
 
 use crate::constants::{number_noun, text_noun};
-use crate::datum::Datum;
-use crate::part::Part;
 use crate::stack::Stack;
-use crate::verbs::is_built;
 use jdata::{Name, NoMemory, Primitive};
-use jterm::Term;
+use jterm::{Datum, Part, Term};
 use jwords::{Word, WordKind};
 use std::alloc::Global;
 
@@ -19,15 +16,6 @@ pub(crate) enum Queued {
     Ready(Part),
     /// A name, which is looked up as it is moved.
     Named(Name),
-}
-
-fn verb_of(run: &[u8]) -> Option<Primitive>
-    ensures { result ≡ queues.verb_of run.now }
-{
-    match Primitive::of(run) {
-        Some(verb) if is_built(verb) => Some(verb),
-        _ => None,
-    }
 }
 
 fn is_copula(run: &[u8]) -> bool
@@ -45,20 +33,29 @@ fn verb_part(verb: Primitive) -> Queued
     })
 }
 
+// The verb that a word spells.
+fn verb_item(run: &[u8]) -> Option<Queued>
+    ensures { result ≡ queues.verb_item run.now }
+{
+    match Primitive::of(run) {
+        Some(verb) => Some(verb_part(verb)),
+        None => None,
+    }
+}
+
 fn symbol(run: &[u8]) -> Option<Queued>
     ensures { result ≡ queues.symbol run.now }
 {
     if is_copula(run) {
-        Some(Queued::Ready(Part::Copula))
+        Some(Queued::Ready(Part::Copula {
+            local: run == b"=.".as_slice(),
+        }))
     } else if run == b"(".as_slice() {
         Some(Queued::Ready(Part::Left))
     } else if run == b")".as_slice() {
         Some(Queued::Ready(Part::Right))
     } else {
-        match verb_of(run) {
-            Some(verb) => Some(verb_part(verb)),
-            None => None,
-        }
+        verb_item(run)
     }
 }
 
@@ -139,7 +136,7 @@ fn item_of(alloc: Global, kind: WordKind, run: &[u8]) -> Result<Option<Queued>, 
         WordKind::Number => noun_item(number_noun(alloc, run)),
         WordKind::Text => noun_item(text_noun(alloc, run)),
         WordKind::Graphic => Ok(symbol(run)),
-        WordKind::Inflected => Ok(None),
+        WordKind::Inflected => Ok(verb_item(run)),
         WordKind::Comment => Ok(None),
     }
 }

@@ -3,15 +3,13 @@
 ghost use Rattle.std.specs.Prelude.{◌≡◌, ◌∷◌, OnOk};
 ghost use Rattle.jeval.specs.Rows as rows;
 ghost use Rattle.jeval.specs.Made.{Gives};
-ghost use Rattle.jeval.specs.declared.part.Part.TheVariants as part;
+ghost use Rattle.jterm.specs.declared.part.Part.TheVariants as part;
 
-use crate::datum::Datum;
 use crate::end::EvalEnd;
-use crate::part::Part;
 use crate::stack::{Parts, pushed};
 use jarray::Room;
 use jdata::{Fault, Kind, Name};
-use jterm::Term;
+use jterm::{Datum, Locative, Part, Term};
 
 /// The parts that stay where others act.
 #[derive(Drop)]
@@ -199,11 +197,22 @@ fn noun_as_target(kind: Kind) -> Fault
     }
 }
 
+// A name in a locale isn't built.
+fn plain_name(target: Locative) -> Result<Name, Fault>
+    ensures { result ≡ rows.plain_name target }
+{
+    match target.place {
+        None => Ok(target.name),
+        Some(_) => Err(Fault::Nonce),
+    }
+}
+
 fn target_name(room: &Room, target: Part) -> Result<Name, Fault>
     ensures { result ≡ rows.target_name target }
 {
     match target {
-        Part::Target(name) => Ok(name),
+        Part::Target(target) => plain_name(target),
+        Part::Ranks(_) => Err(Fault::Domain),
         Part::Noun(noun) => Err(noun_as_target(noun.array().kind(room))),
         _ => Err(Fault::Syntax),
     }

@@ -1,20 +1,17 @@
 //! What is printed of a sentence.
-ghost use Rattle.std.specs.Prelude.{◌≡◌, ◌≢◌, ◌++◌, ◌∷◌, [], OnOk, IfOk};
-ghost use Rattle.jdata.specs.Noun.{kind};
-ghost use Rattle.jdata.specs.declared.noun.Kind.TheVariants as sort;
+ghost use Rattle.std.specs.Prelude.{◌≡◌, ◌++◌, ◌∷◌, [], OnOk, IfOk};
 ghost use Rattle.jformat.specs.Rows.{display_of};
 ghost use Rattle.jnumber.specs.Spelling.{written};
 ghost use Rattle.jwords.specs.Alphabet.{line_feed};
 ghost use Rattle.jeval.specs.Made.{Answers};
 ghost use Rattle.jeval.specs.Showing as showing;
 
-use crate::datum::Datum;
 use crate::end::{EvalEnd, NO_MEMORY};
-use crate::part::Part;
 use crate::stack::Parts;
 use jarray::{Array, Room};
-use jdata::{Bytes, Fault, Kind, NoMemory};
+use jdata::{Bytes, Fault, NoMemory};
 use jformat::display;
+use jterm::{Datum, Part};
 use jwords::trimmed;
 use std::alloc::Global;
 
@@ -61,7 +58,6 @@ fn number_row(alloc: Global, number: i64) -> Result<Bytes, NoMemory>
 
 #[tactic(auto, using(jformat::specs::Single::display_of_int_atom))]
 fn display_rows(alloc: Global, room: &mut Room, value: Array) -> Result<Bytes, NoMemory>
-    requires { kind value.noun ≢ sort.Boxed }
     ensures { IfOk result (λ bytes. bytes ≡ display_of value.noun) }
 {
     match value.integer(room) {
@@ -79,9 +75,6 @@ fn rows(alloc: Global, room: &mut Room, value: Datum) -> Result<Option<Bytes>, E
     ensures { Answers (showing.rows value) result }
 {
     let value = value.into_array();
-    if value.kind(room) == Kind::Boxed {
-        return Err(EvalEnd::Fault(Fault::Nonce));
-    }
     match display_rows(alloc, room, value) {
         Ok(bytes) => Ok(Some(bytes)),
         Err(NoMemory) => Err(NO_MEMORY),

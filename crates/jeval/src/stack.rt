@@ -1,12 +1,13 @@
 //! Lists that grow and shrink at their front.
-ghost use Rattle.std.specs.Prelude.{◌≡◌, [], ◌∷◌, length, MatchOption, OnOk, OnErr};
+ghost use Rattle.std.specs.Prelude.{◌≡◌, [], ◌∷◌, ◌<◌, length, MatchOption, OnOk, OnErr};
 ghost use Rattle.jeval.specs.Made.{Gives};
-ghost use Rattle.jeval.specs.Parsing.{class_at};
+ghost use Rattle.jparse.specs.Parsing.{act_of, awaits_target};
+ghost use Rattle.jparse.specs.declared.table.Act.TheVariants as act;
 
 use crate::end::{EvalEnd, NO_MEMORY};
-use crate::parsing::Class;
-use crate::part::Part;
 use jdata::NoMemory;
+use jparse::Act;
+use jterm::Part;
 use std::alloc::Global;
 use std::marker::Model;
 
@@ -72,14 +73,18 @@ impl<T: Drop> Stack<T> {
 }
 
 impl Stack<Part> {
-    /// The class of the part at this place from the front.
-    pub(crate) fn class(&self, at: usize) -> Option<Class>
-        ensures { result ≡ class_at at self.now }
+    /// What happens next in a sentence, where so many words are left.
+    pub(crate) fn step(&self, left_over: usize) -> Act
+        ensures value { result ≡ act_of self.now left_over }
+        ensures reads { result ≡ act.Shift → 0 < left_over }
     {
-        if at < self.items.len() {
-            Some(self.items[self.items.len() - 1 - at].class())
-        } else {
-            None
-        }
+        jparse::step(self.items.as_slice(), left_over)
+    }
+
+    /// Whether a name that is moved now is a target.
+    pub(crate) fn awaits_target(&self) -> bool
+        ensures { result ≡ awaits_target self.now }
+    {
+        jparse::awaits_target(self.items.as_slice())
     }
 }

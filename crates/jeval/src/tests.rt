@@ -73,8 +73,13 @@ fn names_and_their_values(rt: HostRuntime) -> Result<(), Fail> {
             "|value error\n|   a =: a + 1\n|value error\n|   a\n",
         ),
         (
-            "a =: i. 3\na",
-            "|nonce error\n|   a =: i. 3\n|value error\n|   a\n",
+            "a =: ~. 3\na",
+            "|nonce error\n|   a =: ~. 3\n|value error\n|   a\n",
+        ),
+        // the rows before a verb that isn't built act
+        (
+            "b =: ~. a =: 4\na\nb",
+            "|nonce error\n|   b =: ~. a =: 4\n4\n|value error\n|   b\n",
         ),
         // a verb's name is looked up each time it is run
         ("s =: -\ns 5\ns =: +\ns 5\n2 s 3", "_5\n5\n5\n"),
@@ -198,8 +203,8 @@ fn words_that_are_refused(rt: HostRuntime) -> Result<(), Fail> {
         ("a_ =: 1", "|spelling error\n|   a_ =: 1\n"),
         ("a_p_ =: 1", "|nonce error\n|   a_p_ =: 1\n"),
         ("a__b", "|nonce error\n|   a__b\n"),
-        ("  i. 3\t", "|nonce error\n|   i. 3\n"),
-        ("# 1 2 NB. none", "|nonce error\n|   # 1 2 NB. none\n"),
+        ("  ~. 3\t", "|nonce error\n|   ~. 3\n"),
+        ("3 L. 1 2 NB. none", "|nonce error\n|   3 L. 1 2 NB. none\n"),
         ("i. 3abc", "|ill-formed number\n|   i. 3abc\n"),
         ("a_ 'b", "|spelling error\n|   a_ 'b\n"),
         ("+/ 1 2", "|nonce error\n|   +/ 1 2\n"),
@@ -232,7 +237,7 @@ fn values_and_faults(rt: HostRuntime) -> Result<(), Fail> {
         ),
         ("3 + 4 * 5\n10 - 2 - 3\n2 - - 5\n- 3 - 5", "23\n11\n7\n2\n"),
         ("(1 + 2) * 3\n((3))\n(-) 3\n(10 - 2) - 3", "9\n3\n_3\n5\n"),
-        ("+\n>:\n(-)", "verb\nverb\nverb\n"),
+        ("+\n>:\n(-)\n~.", "verb\nverb\nverb\nverb\n"),
         ("1 2 + 1 2 3", "|length error\n|   1 2 + 1 2 3\n"),
         (
             "9223372036854775807 + 1\n- _9223372036854775808",

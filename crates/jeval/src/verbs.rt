@@ -3,44 +3,12 @@ ghost use Rattle.std.specs.Prelude.{◌≡◌};
 ghost use Rattle.jeval.specs.Made.{Answers, Ends};
 ghost use Rattle.jeval.specs.Verbs as verbs;
 
-use crate::datum::Datum;
 use crate::end::EvalEnd;
 use jarray::{Array, Room};
 use jdata::{Primitive, Trouble};
+use jterm::Datum;
 use juses::Halt;
 use std::alloc::Global;
-
-/// Whether something of the verb is built.
-#[tactic(auto, unfolding(jscalar::specs::Monads::monad_on, jscalar::specs::Dyads::dyad_on))]
-pub(crate) fn is_built(verb: Primitive) -> bool
-    ensures { result ≡ verbs.is_built verb }
-{
-    matches!(
-        verb,
-        Primitive::Equal
-            | Primitive::Less
-            | Primitive::LessDot
-            | Primitive::LessColon
-            | Primitive::Greater
-            | Primitive::GreaterDot
-            | Primitive::GreaterColon
-            | Primitive::Plus
-            | Primitive::PlusDot
-            | Primitive::PlusColon
-            | Primitive::Times
-            | Primitive::TimesDot
-            | Primitive::TimesColon
-            | Primitive::Minus
-            | Primitive::MinusDot
-            | Primitive::MinusColon
-            | Primitive::Divide
-            | Primitive::DivideColon
-            | Primitive::Power
-            | Primitive::Bar
-            | Primitive::TildeColon
-            | Primitive::Bang
-    )
-}
 
 // What a kernel gave, as the end of an evaluation.
 fn ended(given: Result<Array, Trouble>) -> Result<Datum, EvalEnd>

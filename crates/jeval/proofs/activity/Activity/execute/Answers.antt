@@ -3,7 +3,7 @@ use Rattle.jdata.specs.declared.fault.Fault.TheVariants.{Syntax}
 use Rattle.jeval.specs.declared.end.EvalEnd.TheVariants as end
 use Rattle.juses.proofs.Doing.{Relations}
 use Rattle.jeval.specs.Execution.{executed, is_assignment}
-use Rattle.jeval.specs.Parsing.{row_at}
+use Rattle.jparse.specs.Parsing.{row_at}
 use Rattle.jeval.proofs.Executing.{executed_reads, executed_acts, reads_next, acts_next, is_done, is_unmeant}
 use Rattle.jeval.proofs.Making.{fails_at_once, given, made_at}
 use Rattle.jeval.proofs.Stages.{Stage, stage_on, stage_stops, moved_turns, acted_turns}

@@ -2,7 +2,7 @@ use Rattle.std.proofs.Common.{◌∷◌, subst}
 use Rattle.juses.proofs.Doing.{Relations}
 use Rattle.jeval.specs.Execution.{value_of}
 use Rattle.jeval.specs.Made.{Gives}
-use Rattle.jeval.specs.declared.part.Part.{Part}
+use Rattle.jterm.specs.declared.part.Part.{Part}
 use Rattle.jeval.proofs.Making.{makes_on, stops_by, given}
 use Rattle.jeval.proofs.activity.Activity.move_value.Goals as goal
 
