@@ -1,7 +1,0 @@
-use Rattle.std.proofs.Common.{subst}
-use Rattle.jarray.specs.Placed.{Gives}
-use Rattle.jprim.proofs.Rows.{dyad_is}
-use Rattle.jprim.proofs.verbs.dyad.Goals as goal
-
-pub returns-clause-answer : goal.returns-clause-answer
-returns-clause-answer c = subst (λ r. Gives r c.scalar2.result) (dyad_is c.args.verb c.args.x.noun c.args.y.noun) c.scalar2.ensures.answer
