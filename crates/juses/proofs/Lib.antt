@@ -9,3 +9,11 @@ pub mod Runs
 pub mod Alone
 pub mod Closing
 pub mod Solos
+pub mod Phases
+pub mod OneRun
+pub mod ManyRuns
+pub mod Trees
+pub mod There
+pub mod EachActivity
+pub mod Threads
+pub mod DueTasks

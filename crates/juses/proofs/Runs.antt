@@ -5,7 +5,7 @@ use Rattle.juses.specs.Keys.{same}
 use Rattle.juses.specs.Desk.{State, first, reply, moved, bytes_of}
 use Rattle.juses.specs.Entries.{entry}
 use Rattle.juses.specs.Events.{Events, NoMore, Did, told, Does, HaltsAt}
-use Rattle.juses.specs.Histories.{Once, after, Fits, Legal, own, replies, prints, Asks, Faithful, Complete, OneThread, OneThreadRun}
+use Rattle.juses.specs.Histories.{Once, after, Fits, Legal, own, replies, prints, Asks, Faithful, Complete, OneThread, OneThreadRun, Stuck}
 use Rattle.juses.specs.OldestFirst.{taken, Tells, written, onto, history}
 use Rattle.juses.specs.Told.{Told, Replied, Handed, NoneDue}
 use Rattle.juses.specs.Wishes.{Wish, Read, Write, Print, use_of}
@@ -74,18 +74,6 @@ newer p (x ∷ h) (inr s) = by (newer p h s)
     by : (p ≡ h) ⊎ ((f : Entry) × Once (f ∷ p) h) → (p ≡ (x ∷ h)) ⊎ ((f : Entry) × Once (f ∷ p) (x ∷ h))
     by (inl e) = inr (x, inl (ap (λ l. x ∷ l) e))
     by (inr t) = inr (t.0, inr t.1)
-
--- each use that a piece of work makes has a reply
-has_reply : (s : State) (q : Wish) → (r : Reply) × (reply s [] 0 (use_of q) ≡ Some r)
-has_reply s (Read from name) = (_, refl)
-has_reply s (Write place name value) = (_, refl)
-has_reply s (Print bytes) = (_, refl)
-
--- what main asks is one of these
-pub is_wish : {A : Type 0} (p : Program Wish Reply A) (rs : List Reply) (u : Use) → next (main_of p) rs ≡ Some u → (q : Wish) × (use_of q ≡ u)
-is_wish (Return a) rs u e = cc
-is_wish (Ask q k) [] u e = (q, cc)
-is_wish (Ask q k) (r ∷ rs) u e = is_wish (k r) rs u e
 
 module _ {A : Type 0} (script : Program Wish Reply A) where
   -- the program is what is left of the script after the history
@@ -192,15 +180,29 @@ module _ {A : Type 0} (script : Program Wish Reply A) where
     pub whole_run : (h : List Entry) → Legal workers h → Faithful script h → Complete script h → OneThreadRun script workers h
     whole_run h l f c = (one_thread h l f, λ e o. let asked = asks_next h e.asked o.3 in cc)
 
-    pub complete_run : (h : List Entry) → OneThreadRun script workers h → Complete script h
+    pub stuck_run : (h : List Entry) → OneThread script workers h → Stuck script workers h → OneThreadRun script workers h
+    stuck_run h o s = (
+      o,
+      λ e q.
+          let one = asks_next h s.0 s.1 in
+          let other = asks_next h e.asked q.3 in
+          let is : s.0 ≡ e.asked = cc in
+          let said : reply (after workers h) [] 0 s.0 ≡ Some e.reply = ap (reply (after workers h) [] 0) is ∙ q.4 in
+          let none = s.2 in
+          cc,
+    )
+
+    -- where it can't go on the script has ended, or its next use has no reply
+    pub complete_run : (h : List Entry) → OneThreadRun script workers h → Complete script h ⊎ Stuck script workers h
     complete_run h o = by (next (main_of script) (replies (own [] h))) refl
       where
-        by : (n : Option Use) → next (main_of script) (replies (own [] h)) ≡ n → next (main_of script) (replies (own [] h)) ≡ None
-        by None e = e
-        by (Some u) e =
-            let q = is_wish script (replies (own [] h)) u e in
-            let r = has_reply (after workers h) q.0 in
-            absurd (o.1 (record { who = []; thread = 0; asked = use_of q.0; reply = r.0 }) (o.0, refl, refl, (main_of script, (refl, refl), e ∙ ap Some (sym q.1)), r.1))
+        stands : (u : Use) → next (main_of script) (replies (own [] h)) ≡ Some u → (x : Option Reply) → reply (after workers h) [] 0 u ≡ x → Complete script h ⊎ Stuck script workers h
+        stands u e None none = inr (u, (main_of script, (refl, refl), e), none)
+        stands u e (Some r) said = absurd (o.1 (entry [] 0 u r) (o.0, refl, refl, (main_of script, (refl, refl), e), said))
+
+        by : (n : Option Use) → next (main_of script) (replies (own [] h)) ≡ n → Complete script h ⊎ Stuck script workers h
+        by None e = inl e
+        by (Some u) e = stands u e (reply (after workers h) [] 0 u) refl
 
     pub once_run : (r : List Entry) → OneThreadRun script workers r → (h : List Entry) → OneThread script workers h → Once h r
     once_run r o [] p = once_empty r
@@ -226,21 +228,44 @@ module _ {A : Type 0} (script : Program Wish Reply A) where
 abbrev nothing_refused : List ℕ → Use → Halt → Type 0
 nothing_refused who asked halt = ⊥
 
--- what a program and the desk do from a state on
-done_from : {A : Type 0} (p : Program Wish Reply A) (s : State) → (es : Events) × (a : A) × Does nothing_refused [] p es (Ok a) × Tells 0 s (told es)
-done_from (Return a) s = (NoMore, a, refl, tt)
-done_from (Ask q k) s =
-    let r = has_reply s q in
-    let rest = done_from (k r.0) (moved s (entry [] 0 (use_of q) r.0)) in
-    (Did (entry [] 0 (use_of q) r.0) rest.0, rest.1, (refl, refl, rest.2), ((refl, r.1), rest.3))
+-- a use has no reply
+abbrev no_reply : State → List ℕ → Use → Halt → Type 0
+no_reply s who asked halt = reply s who 0 asked ≡ None
+
+-- what a program and the desk do from a state on: all up to an answer, or up to a use without a reply
+abbrev Goes : {A : Type 0} → Program Wish Reply A → State → Events → Type 0
+Goes {A} p s es = ((a : A) × Does nothing_refused [] p es (Ok a)) ⊎ Does (no_reply (taken s (told es))) [] p es (Err halts.Wait)
+
+done_from : {A : Type 0} (p : Program Wish Reply A) (s : State) → (es : Events) × Tells 0 s (told es) × Goes p s es
+done_from (Return a) s = (NoMore, tt, inl (a, refl))
+done_from {A} (Ask q k) s = by (reply s [] 0 (use_of q)) refl (λ r t. done_from (k r) t)
+  where
+    on : (r : Reply) (es : Events) → Goes (k r) (moved s (entry [] 0 (use_of q) r)) es → Goes (Ask q k) s (Did (entry [] 0 (use_of q) r) es)
+    on r es (inl d) = inl (d.0, (refl, refl, d.1))
+    on r es (inr d) = inr (refl, refl, d)
+
+    by : (x : Option Reply) → reply s [] 0 (use_of q) ≡ x → ((r : Reply) (t : State) → (es : Events) × Tells 0 t (told es) × Goes (k r) t es) → (es : Events) × Tells 0 s (told es) × Goes (Ask q k) s es
+    by None e call = (NoMore, tt, inr e)
+    by (Some r) e call =
+        let rest = call r (moved s (entry [] 0 (use_of q) r)) in
+        (Did (entry [] 0 (use_of q) r) rest.0, ((refl, e), rest.1), on r rest.0 rest.2)
 
 -- so there is a one-thread run
 pub a_run : {A : Type 0} (script : Program Wish Reply A) (workers : ℕ) → (r : List Entry) × OneThreadRun script workers r
-a_run script workers =
-    let d = done_from script (first workers) in (
-      history (told d.0),
-      whole_run script workers (history (told d.0)) (legal_history script nothing_refused workers d.0 (Ok d.1) d.2 d.3) (faithful_history script nothing_refused d.0 (Ok d.1) d.2) (complete_history script nothing_refused d.0 d.1 d.2),
+a_run {A} script workers = by (done_from script (first workers))
+  where
+    by : (es : Events) × Tells 0 (first workers) (told es) × Goes script (first workers) es → (r : List Entry) × OneThreadRun script workers r
+    by (es, tells, inl d) = (
+      history (told es),
+      whole_run script workers (history (told es)) (legal_history script nothing_refused workers es (Ok d.0) d.1 tells) (faithful_history script nothing_refused es (Ok d.0) d.1) (complete_history script nothing_refused es d.0 d.1),
     )
+    by (es, tells, inr d) =
+        let refuses : List ℕ → Use → Halt → Type 0 = no_reply (taken (first workers) (told es)) in
+        let h : List Entry = history (told es) in
+        let one = one_thread script workers h (legal_history script refuses workers es (Err halts.Wait) d tells) (faithful_history script refuses es (Err halts.Wait) d) in
+        let u = refused_history script refuses es halts.Wait d (λ is. cc) in
+        let none : reply (after workers h) [] 0 u.0 ≡ None = ap (λ s. reply s [] 0 u.0) (after_onto workers (told es) []) ∙ u.2 in
+        (h, stuck_run script workers h one (u.0, u.1, none))
 
 pub legal_once : (workers : ℕ) (p h : List Entry) → Once p h → Legal workers h → Legal workers p
 legal_once workers p [] e l = subst (Legal workers) (sym e) tt

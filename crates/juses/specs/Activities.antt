@@ -2,7 +2,7 @@
 -- stands in front.
 use Rattle.std.specs.Prelude.{◌≡◌, ◌⊎◌, ◌≤◌, ℕ, List, [], ◌∷◌, if◌then◌else◌, length, Some, None}
 use Rattle.juses.specs.Desk.{reply}
-use Rattle.juses.specs.Entries.{pyx_of}
+use Rattle.juses.specs.Entries.{pyx_of, started_by}
 use Rattle.juses.specs.Histories.{after, own, replies}
 use Rattle.juses.specs.Keys.{Threads, same}
 use Rattle.juses.specs.Program.{Program, Return, Ask, next, before, main_of}
@@ -36,6 +36,11 @@ Legal workers (e ∷ h) = Legal workers h × Fits workers h e.who e.thread e.ask
 abbrev pub WasStarted : List Entry → List ℕ → Work → Type 0
 WasStarted [] task work = ⊥
 WasStarted (e ∷ h) task work = ((pool : ℕ) × (e.asked ≡ Start pool work) × (e.reply ≡ Pyx (pyx_of task))) ⊎ WasStarted h task work
+
+-- no task was started in it
+abbrev pub StartsNone : List Entry → Type 0
+StartsNone [] = Unit {0}
+StartsNone (e ∷ h) = StartsNone h × (started_by e.asked e.reply ≡ None)
 
 abbrev pub HasEnded : List Entry → List ℕ → Type 0
 HasEnded h task = (outcome : Ended) × (thread : ℕ) × HasAsked h task thread (End outcome)

@@ -76,3 +76,7 @@ module _ {A : Type 0} (script : Program Wish Reply A) where
   -- the one-thread run: the history of one thread that can't go on
   abbrev pub OneThreadRun : ℕ → List Entry → Type 0
   OneThreadRun workers h = OneThread workers h × ((e : Entry) → OneThread workers (e ∷ h) → ⊥)
+
+  -- it can't go on since the next use has no reply
+  abbrev pub Stuck : ℕ → List Entry → Type 0
+  Stuck workers h = (asked : Use) × Asks h (going h) asked × (reply (after workers h) (going h) 0 asked ≡ None)

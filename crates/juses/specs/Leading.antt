@@ -35,7 +35,7 @@ pub taken-append : (s : State) (xs ys : List Told) → taken s (xs ++ ys) ≡ ta
 taken-append s [] ys = refl
 taken-append s (x ∷ xs) ys = taken-append (moved_by s x) xs ys
 
-both_tell : (s : State) (xs ys : List Told) → Tells 0 s xs → Tells 0 (taken s xs) ys → Tells 0 s (xs ++ ys)
+pub both_tell : (s : State) (xs ys : List Told) → Tells 0 s xs → Tells 0 (taken s xs) ys → Tells 0 s (xs ++ ys)
 both_tell s [] ys one other = other
 both_tell s (x ∷ xs) ys one other = (one.0, both_tell (moved_by s x) xs ys one.1 other)
 

@@ -3,6 +3,7 @@ pub mod Program
 pub mod Entries
 pub mod Told
 pub mod Events
+pub mod Doings
 pub mod Keys
 pub mod Tables
 pub mod Desk
@@ -10,8 +11,11 @@ pub mod Agreeing
 pub mod Histories
 pub mod Activities
 pub mod Standing
+pub mod SoloRuns
 pub mod Limits
 pub mod Keeping
 pub mod OldestFirst
 pub mod Leading
 pub mod Closing
+pub mod ByActivity
+pub mod Due

@@ -11,6 +11,7 @@ use std::marker::Model;
 use std::mem;
 
 mod copies;
+mod due;
 mod mutexes;
 mod pyxes;
 mod tasks;

@@ -1,13 +1,13 @@
 //! Laws of programs, of the desk and of histories, each the contract of a function without
 //! parameters.
-ghost use Rattle.std.specs.Prelude.{◌≡◌, ◌≢◌, ℕ, List, [], ◌∷◌, ◌++◌, map, true, false, Some, None, Result, Ok, Err};
+ghost use Rattle.std.specs.Prelude.{◌≡◌, ◌≢◌, ◌⊎◌, ℕ, List, [], ◌∷◌, ◌++◌, map, true, false, Some, None, Result, Ok, Err};
 ghost use Rattle.juses.specs.Program.{Program, next, Begins, Ends};
 ghost use Rattle.juses.specs.Keys.{Key, is_among, changed_by};
 ghost use Rattle.juses.specs.Activities as many;
 ghost use Rattle.juses.specs.Agreeing.{AgreeBeside, AgreeOnHolder};
 ghost use Rattle.juses.specs.Desk.{State, first, reply, moved, depends_on};
 ghost use Rattle.juses.specs.Events.{Events, told, Does, Runs};
-ghost use Rattle.juses.specs.Histories.{Once, after, prints, Legal, Asks, Faithful, Complete, OneThread, OneThreadRun};
+ghost use Rattle.juses.specs.Histories.{Once, after, prints, Legal, Asks, Faithful, Complete, OneThread, OneThreadRun, Stuck};
 ghost use Rattle.juses.specs.Leading.{Leads};
 ghost use Rattle.juses.specs.OldestFirst.{Tells, history, taken, written};
 ghost use Rattle.juses.specs.Standing.{Kept, Refuses};
@@ -57,7 +57,8 @@ pub fn history_law<A>()
 {}
 
 /// A legal, faithful and complete history of a script with one activity is the one-thread run. There
-/// is exactly one such run, and what was done on the way to it was done at some time in it.
+/// is exactly one such run, and what was done on the way to it was done at some time in it. It ends
+/// where the script has ended, or where the next use has no reply.
 pub fn one_thread_law<A>()
     ensures there { (script : Program Wish Reply A) (workers : ℕ) → (r : List Entry) × OneThreadRun script workers r }
     ensures run { (script : Program Wish Reply A) (workers : ℕ) (h : List Entry) → Legal workers h → Faithful script h → Complete script h → OneThreadRun script workers h }
@@ -65,7 +66,7 @@ pub fn one_thread_law<A>()
     ensures part { (script : Program Wish Reply A) (workers : ℕ) (r h : List Entry) → OneThreadRun script workers r → Legal workers h → Faithful script h → Once h r }
     ensures legal { (script : Program Wish Reply A) (workers : ℕ) (r : List Entry) → OneThreadRun script workers r → Legal workers r }
     ensures faithful { (script : Program Wish Reply A) (workers : ℕ) (r : List Entry) → OneThreadRun script workers r → Faithful script r }
-    ensures complete { (script : Program Wish Reply A) (workers : ℕ) (r : List Entry) → OneThreadRun script workers r → Complete script r }
+    ensures complete { (script : Program Wish Reply A) (workers : ℕ) (r : List Entry) → OneThreadRun script workers r → Complete script r ⊎ Stuck script workers r }
 {}
 
 /// What a legal or faithful history once was is legal or faithful.
@@ -74,11 +75,11 @@ pub fn prefix_law<A>()
     ensures faithful { (script : Program Wish Reply A) (p h : List Entry) → Once p h → Faithful script h → Faithful script p }
 {}
 
-/// Whatever the works of tasks mean, a history of main alone is one of many activities of which none
-/// was started: legal, faithful, complete, and the one-thread run.
+/// Whatever the works of tasks mean, a history of main alone in which no task was started is one of
+/// many activities: legal, faithful, complete, and the one-thread run.
 pub fn alone_law<A>()
     ensures legal { (workers : ℕ) (h : List Entry) → Legal workers h → many.Legal workers h }
-    ensures faithful { (meaning : Work → Program Wish Reply Ended) (script : Program Wish Reply A) (h : List Entry) → Faithful script h → many.Faithful meaning script h }
-    ensures complete { (meaning : Work → Program Wish Reply Ended) (script : Program Wish Reply A) (h : List Entry) → Faithful script h → Complete script h → many.Complete meaning script h }
-    ensures run { (meaning : Work → Program Wish Reply Ended) (script : Program Wish Reply A) (workers : ℕ) (h : List Entry) → OneThreadRun script workers h → many.OneThreadRun meaning script workers h }
+    ensures faithful { (meaning : Work → Program Wish Reply Ended) (script : Program Wish Reply A) (h : List Entry) → many.StartsNone h → Faithful script h → many.Faithful meaning script h }
+    ensures complete { (meaning : Work → Program Wish Reply Ended) (script : Program Wish Reply A) (h : List Entry) → many.StartsNone h → Complete script h → many.Complete meaning script h }
+    ensures run { (meaning : Work → Program Wish Reply Ended) (script : Program Wish Reply A) (workers : ℕ) (h : List Entry) → many.StartsNone h → OneThreadRun script workers h → many.OneThreadRun meaning script workers h }
 {}

@@ -1,6 +1,7 @@
 //! Uses: the questions that an activity asks of the session, and who answers them.
 #![tactic(auto)]
 
+mod activity_laws;
 mod by_maker;
 mod desk;
 mod kept;
@@ -9,6 +10,7 @@ mod locales;
 mod solo;
 mod uses;
 
+pub use activity_laws::{activities_law, faithful_law, solo_law};
 pub use desk::Desk;
 pub use kept::{Holding, Phase, Setting};
 pub use laws::{

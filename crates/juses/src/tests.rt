@@ -307,90 +307,81 @@ fn first_wrong(alloc: Global, desk: &mut Desk, rows: &[Row]) -> Result<Option<us
     Ok(None)
 }
 
-fn threads_and_pools(alloc: Global, desk: &mut Desk) -> Result<Option<usize>, Fail> {
-    let rows = [
-        (0, 0, Asked::Threads, Said::Number(0)),
-        (0, 0, Asked::MakeThread(2), Said::Number(1)),
-        (0, 0, Asked::MakeThread(2), Said::Refused(Fault::Limit)),
-        (0, 0, Asked::Threads, Said::Number(1)),
-        (0, 0, Asked::PoolState(2), Said::Pool(1, 0, 1)),
-        (0, 0, Asked::PoolState(0), Said::Pool(0, 0, 0)),
-        (0, 0, Asked::Current, Said::Number(0)),
-        (1, 1, Asked::Begin, Said::Waits),
-        (0, 0, Asked::Start(2), Said::Pyx(1, 0)),
-        (0, 0, Asked::Start(2), Said::Pyx(2, 0)),
-        (0, 0, Asked::PoolState(2), Said::Pool(1, 2, 1)),
-        (1, 1, Asked::End(5), Said::Waits),
-    ];
-    first_wrong(alloc, desk, &rows)
-}
+const THREADS_AND_POOLS: [Row; 12] = [
+    (0, 0, Asked::Threads, Said::Number(0)),
+    (0, 0, Asked::MakeThread(2), Said::Number(1)),
+    (0, 0, Asked::MakeThread(2), Said::Refused(Fault::Limit)),
+    (0, 0, Asked::Threads, Said::Number(1)),
+    (0, 0, Asked::PoolState(2), Said::Pool(1, 0, 1)),
+    (0, 0, Asked::PoolState(0), Said::Pool(0, 0, 0)),
+    (0, 0, Asked::Current, Said::Number(0)),
+    (1, 1, Asked::Begin, Said::Waits),
+    (0, 0, Asked::Start(2), Said::Pyx(1, 0)),
+    (0, 0, Asked::Start(2), Said::Pyx(2, 0)),
+    (0, 0, Asked::PoolState(2), Said::Pool(1, 2, 1)),
+    (1, 1, Asked::End(5), Said::Waits),
+];
 
-fn tasks(alloc: Global, desk: &mut Desk) -> Result<Option<usize>, Fail> {
-    let rows = [
-        (1, 1, Asked::Begin, Said::Done),
-        (1, 1, Asked::Begin, Said::Waits),
-        (0, 0, Asked::PoolState(2), Said::Pool(0, 2, 1)),
-        (1, 1, Asked::Start(0), Said::Pyx(11, 0)),
-        (1, 1, Asked::Current, Said::Number(1)),
-        (0, 0, Asked::Open(1, 0), Said::Waits),
-        (1, 1, Asked::End(5), Said::Done),
-        (1, 1, Asked::End(6), Said::Waits),
-        (0, 0, Asked::Open(1, 0), Said::Value(5)),
-        (0, 0, Asked::PoolState(2), Said::Pool(1, 1, 1)),
-        (2, 0, Asked::Begin, Said::Done),
-        (2, 0, Asked::Fail, Said::Done),
-        (0, 0, Asked::Open(2, 0), Said::Refused(Fault::Rank)),
-        (1111, 0, Asked::Start(0), Said::Refused(Fault::Limit)),
-    ];
-    first_wrong(alloc, desk, &rows)
-}
+const TASKS: [Row; 14] = [
+    (1, 1, Asked::Begin, Said::Done),
+    (1, 1, Asked::Begin, Said::Waits),
+    (0, 0, Asked::PoolState(2), Said::Pool(0, 2, 1)),
+    (1, 1, Asked::Start(0), Said::Pyx(11, 0)),
+    (1, 1, Asked::Current, Said::Number(1)),
+    (0, 0, Asked::Open(1, 0), Said::Waits),
+    (1, 1, Asked::End(5), Said::Done),
+    (1, 1, Asked::End(6), Said::Waits),
+    (0, 0, Asked::Open(1, 0), Said::Value(5)),
+    (0, 0, Asked::PoolState(2), Said::Pool(1, 1, 1)),
+    (2, 0, Asked::Begin, Said::Done),
+    (2, 0, Asked::Fail, Said::Done),
+    (0, 0, Asked::Open(2, 0), Said::Refused(Fault::Rank)),
+    (1111, 0, Asked::Start(0), Said::Refused(Fault::Limit)),
+];
 
-fn pyxes(alloc: Global, desk: &mut Desk) -> Result<Option<usize>, Fail> {
-    let rows = [
-        (0, 0, Asked::MakePyx, Said::Pyx(0, 1)),
-        (11, 0, Asked::MakePyx, Said::Pyx(11, 1)),
-        (0, 0, Asked::Open(0, 1), Said::Waits),
-        (0, 0, Asked::Set(0, 2, 3), Said::Refused(Fault::Domain)),
-        (0, 0, Asked::Set(1, 0, 3), Said::Refused(Fault::Domain)),
-        (11, 0, Asked::Set(0, 1, 3), Said::Done),
-        (0, 0, Asked::Set(0, 1, 4), Said::Refused(Fault::Concurrency)),
-        (0, 0, Asked::Open(0, 1), Said::Value(3)),
-        (0, 0, Asked::Open(11, 1), Said::Waits),
-    ];
-    first_wrong(alloc, desk, &rows)
-}
+const PYXES: [Row; 9] = [
+    (0, 0, Asked::MakePyx, Said::Pyx(0, 1)),
+    (11, 0, Asked::MakePyx, Said::Pyx(11, 1)),
+    (0, 0, Asked::Open(0, 1), Said::Waits),
+    (0, 0, Asked::Set(0, 2, 3), Said::Refused(Fault::Domain)),
+    (0, 0, Asked::Set(1, 0, 3), Said::Refused(Fault::Domain)),
+    (11, 0, Asked::Set(0, 1, 3), Said::Done),
+    (0, 0, Asked::Set(0, 1, 4), Said::Refused(Fault::Concurrency)),
+    (0, 0, Asked::Open(0, 1), Said::Value(3)),
+    (0, 0, Asked::Open(11, 1), Said::Waits),
+];
 
-fn mutexes(alloc: Global, desk: &mut Desk) -> Result<Option<usize>, Fail> {
-    let rows = [
-        (0, 0, Asked::MakeMutex, Said::Mutex(0, 1)),
-        (0, 0, Asked::MakeMutex, Said::Mutex(0, 2)),
-        (0, 0, Asked::Lock(0, 3), Said::Refused(Fault::Domain)),
-        (0, 0, Asked::Unlock(0, 3), Said::Refused(Fault::Domain)),
-        (0, 0, Asked::Unlock(0, 1), Said::Refused(Fault::Concurrency)),
-        (0, 0, Asked::Lock(0, 1), Said::Done),
-        (0, 0, Asked::Lock(0, 1), Said::Refused(Fault::Concurrency)),
-        (11, 0, Asked::Lock(0, 1), Said::Waits),
-        (
-            11,
-            0,
-            Asked::Unlock(0, 1),
-            Said::Refused(Fault::Concurrency),
-        ),
-        (11, 0, Asked::Lock(0, 2), Said::Done),
-        (0, 0, Asked::Unlock(0, 1), Said::Done),
-        (11, 0, Asked::Lock(0, 1), Said::Done),
-    ];
-    first_wrong(alloc, desk, &rows)
-}
+const MUTEXES: [Row; 12] = [
+    (0, 0, Asked::MakeMutex, Said::Mutex(0, 1)),
+    (0, 0, Asked::MakeMutex, Said::Mutex(0, 2)),
+    (0, 0, Asked::Lock(0, 3), Said::Refused(Fault::Domain)),
+    (0, 0, Asked::Unlock(0, 3), Said::Refused(Fault::Domain)),
+    (0, 0, Asked::Unlock(0, 1), Said::Refused(Fault::Concurrency)),
+    (0, 0, Asked::Lock(0, 1), Said::Done),
+    (0, 0, Asked::Lock(0, 1), Said::Refused(Fault::Concurrency)),
+    (11, 0, Asked::Lock(0, 1), Said::Waits),
+    (
+        11,
+        0,
+        Asked::Unlock(0, 1),
+        Said::Refused(Fault::Concurrency),
+    ),
+    (11, 0, Asked::Lock(0, 2), Said::Done),
+    (0, 0, Asked::Unlock(0, 1), Said::Done),
+    (11, 0, Asked::Lock(0, 1), Said::Done),
+];
 
 // one desk with one worker, asked row by row
 #[test]
 fn each_row_of_the_desks_table_is_replied(rt: HostRuntime) -> Result<(), Fail> {
     let mut desk = Desk::new(rt.alloc(), 1)?;
-    assert_eq!(rt; threads_and_pools(rt.alloc(), &mut desk)?, None);
-    assert_eq!(rt; tasks(rt.alloc(), &mut desk)?, None);
-    assert_eq!(rt; pyxes(rt.alloc(), &mut desk)?, None);
-    assert_eq!(rt; mutexes(rt.alloc(), &mut desk)?, None);
+    assert_eq!(rt;
+        first_wrong(rt.alloc(), &mut desk, &THREADS_AND_POOLS)?,
+        None
+    );
+    assert_eq!(rt; first_wrong(rt.alloc(), &mut desk, &TASKS)?, None);
+    assert_eq!(rt; first_wrong(rt.alloc(), &mut desk, &PYXES)?, None);
+    assert_eq!(rt; first_wrong(rt.alloc(), &mut desk, &MUTEXES)?, None);
     assert_eq!(rt; desk.tasks(), 3);
     Ok(())
 }
@@ -417,5 +408,96 @@ fn a_session_hands_out_a_task_once_and_is_closed_where_it_waits(
     let opened = solo.call(Path::main(), asking(rt.alloc(), Asked::Open(1, 0))?);
     assert_eq!(rt; heard(opened), Said::Waits);
     assert_eq!(rt; solo.desk().closed(), Some(Cause::Stuck));
+    Ok(())
+}
+
+// a task that is asked for, by its starter and number
+#[derive(Clone, Copy, Debug)]
+enum Sought {
+    Started(u32, u32),
+    Opening(u32, u32),
+    Working(u16),
+    Ending,
+}
+
+fn why(sought: Sought) -> Why {
+    match sought {
+        Sought::Started(maker, number) => Why::Started(pyx(maker, number)),
+        Sought::Opening(maker, number) => Why::Opening(pyx(maker, number)),
+        Sought::Working(thread) => Why::Working(thread),
+        Sought::Ending => Why::Ending,
+    }
+}
+
+#[derive(Clone, Copy, Debug, PartialEq, Eq)]
+enum Given {
+    Task(u32),
+    Nothing,
+    Waits,
+    Refused,
+}
+
+fn handed(answer: Result<Option<(Path, Work)>, Halt>) -> Given {
+    match answer {
+        Ok(Some((task, _))) => Given::Task(digits(&task)),
+        Ok(None) => Given::Nothing,
+        Err(Halt::Wait) => Given::Waits,
+        Err(_) => Given::Refused,
+    }
+}
+
+// on which thread, what is asked for, and what is given
+type Handing = (u16, Sought, Given);
+
+// the first that is not given so
+fn first_not_given(desk: &mut Desk, rows: &[Handing]) -> Option<usize> {
+    for (at, row) in rows.iter().enumerate() {
+        if handed(desk.begin(row.0, why(row.1))) != row.2 {
+            return Some(at);
+        }
+    }
+    None
+}
+
+const STARTS: [Row; 5] = [
+    (0, 0, Asked::MakeThread(2), Said::Number(1)),
+    (0, 0, Asked::Start(2), Said::Pyx(1, 0)),
+    (0, 0, Asked::Start(2), Said::Pyx(2, 0)),
+    (0, 0, Asked::Start(0), Said::Pyx(3, 0)),
+    (0, 0, Asked::Start(0), Said::Pyx(4, 0)),
+];
+
+const HANDINGS: [Handing; 12] = [
+    (0, Sought::Started(1, 0), Given::Nothing),
+    (0, Sought::Started(3, 1), Given::Nothing),
+    (0, Sought::Started(3, 0), Given::Task(3)),
+    (0, Sought::Started(3, 0), Given::Nothing),
+    (0, Sought::Working(0), Given::Nothing),
+    (0, Sought::Working(2), Given::Nothing),
+    (1, Sought::Working(1), Given::Task(1)),
+    (0, Sought::Opening(2, 0), Given::Task(2)),
+    (0, Sought::Opening(2, 0), Given::Nothing),
+    (1, Sought::Working(1), Given::Nothing),
+    (0, Sought::Ending, Given::Task(4)),
+    (0, Sought::Ending, Given::Waits),
+];
+
+const ENDS: [Row; 4] = [
+    (1, 1, Asked::End(5), Said::Done),
+    (2, 0, Asked::End(5), Said::Done),
+    (3, 0, Asked::End(5), Said::Done),
+    (4, 0, Asked::End(5), Said::Done),
+];
+
+// one thread in pool 2: tasks 1 and 2 are of that pool, 3 and 4 of one without threads
+#[test]
+fn a_waiting_task_is_handed_out_to_whom_it_is_due(rt: HostRuntime) -> Result<(), Fail> {
+    let mut desk = Desk::new(rt.alloc(), 1)?;
+    assert_eq!(rt; first_wrong(rt.alloc(), &mut desk, &STARTS)?, None);
+    assert_eq!(rt; first_not_given(&mut desk, &HANDINGS), None);
+    assert_eq!(rt; first_wrong(rt.alloc(), &mut desk, &ENDS)?, None);
+    assert_eq!(rt; handed(desk.begin(0, Why::Ending)), Given::Nothing);
+    desk.close(Cause::NoMemory);
+    assert_eq!(rt; handed(desk.begin(0, Why::Ending)), Given::Refused);
     Ok(())
 }
