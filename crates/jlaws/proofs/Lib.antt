@@ -1,0 +1,13 @@
+pub mod Logs
+pub mod Setting
+pub mod Stages
+pub mod Counts
+pub mod Core
+pub mod Programs
+pub mod Sound
+pub mod States
+pub mod Facts
+pub mod Quieting
+pub mod Runs
+pub mod Opens
+pub mod Testing
