@@ -28,7 +28,8 @@ pub fn tally(_alloc: Global, room: &mut Room, y: Array) -> Result<Array, Trouble
     Ok(Array::atom(count as i64))
 }
 
-fn item_count(room: &Room, y: &Array) -> u64
+/// How many items `y` has.
+pub fn item_count(room: &Room, y: &Array) -> u64
     ensures value { result ≡ items.item_count y.now.noun }
     ensures at_most { result ≤ most_atoms }
 {
@@ -115,7 +116,7 @@ fn list_shape(alloc: Global, count: u64, item: &[u64]) -> Result<Vec<u64>, NoMem
 }
 
 /// The shape of an item of an array of this shape.
-fn further_axes(axes: &[u64]) -> &[u64]
+pub fn further_axes(axes: &[u64]) -> &[u64]
     ensures { result.now ≡ items.further_axes axes.now }
 {
     match axes {
@@ -124,7 +125,8 @@ fn further_axes(axes: &[u64]) -> &[u64]
     }
 }
 
-fn is_alone(axes: &[u64]) -> bool
+/// Whether an array of this shape is an atom.
+pub fn is_alone(axes: &[u64]) -> bool
     ensures { result ≡ picking.is_alone axes.now }
 {
     match axes {

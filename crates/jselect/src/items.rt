@@ -75,7 +75,8 @@ fn push_times<T: Item>(
     Ok(())
 }
 
-fn run<T>(items: &[T], place: usize, cell: usize) -> &[T]
+/// One run of `cell` items, by its number.
+pub fn run<T>(items: &[T], place: usize, cell: usize) -> &[T]
     requires { place * cell + cell ≤ length items.now }
     ensures { result.now ≡ take cell (drop (place * cell) items.now) }
 {

@@ -1,0 +1,4 @@
+pub mod LastFirst
+pub mod Steps
+pub mod Values
+pub mod Widths
