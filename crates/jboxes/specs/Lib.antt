@@ -1,1 +1,2 @@
+pub mod Dyads
 pub mod Monads

@@ -1,5 +1,5 @@
--- Box, Open and Level Of (J Dictionary and NuVoc, "<", ">" and "L.").
-use Rattle.std.specs.Prelude.{pos, List, [], ◌∷◌, map, Result, Ok}
+-- Box, Open, Level Of and Raze (J Dictionary and NuVoc, "<", ">", "L." and ";").
+use Rattle.std.specs.Prelude.{pos, List, [], ◌∷◌, length, map, Result, Ok}
 use Rattle.jdata.specs.Limits.{limited}
 use Rattle.jdata.specs.Noun.{noun, shape, kind, atoms, level, int_atom}
 use Rattle.jdata.specs.declared.fault.Fault.{Fault}
@@ -10,6 +10,7 @@ use Rattle.jdata.specs.declared.noun.Atom.{Atom, Atom-F, out-Atom}
 use Rattle.jdata.specs.declared.noun.Atom.TheOpen as one
 use Rattle.jdata.specs.declared.noun.Atom.TheVariants as atom
 use Rattle.jframe.specs.Assembly.{assembled}
+use Rattle.jframe.specs.Joining.{items_joined}
 
 -- the array in a box, which is an atom
 abbrev pub enclosed : Noun → Result Noun Fault
@@ -46,3 +47,19 @@ disclosed_by sort.Boxed y = assembled (shape y) (results (atoms y))
 -- the contents in one array: the axes of y, and behind them those that the contents have in common
 unfoldable pub disclosed : Noun → Result Noun Fault
 disclosed y = disclosed_by (kind y) y
+
+abbrev pub contents : Noun → List Noun
+contents y = map content_of (atoms y)
+
+-- the atoms in a list
+abbrev pub listed : Noun → Result Noun Fault
+listed y = limited (noun (length (atoms y) ∷ []) (kind y) (atoms y))
+
+abbrev pub razed_by : Kind → Noun → Result Noun Fault
+razed_by sort.Int y = listed y
+razed_by sort.Char y = listed y
+razed_by sort.Boxed y = items_joined (contents y)
+
+-- the items of all contents, one content after the other; what isn't boxed gives its atoms
+unfoldable pub razed : Noun → Result Noun Fault
+razed y = razed_by (kind y) y

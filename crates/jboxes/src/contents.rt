@@ -31,6 +31,17 @@ fn results_of(alloc: Global, cells: Vec<Cell>) -> Result<Vec<Tree>, NoMemory>
     contents(alloc, cells)
 }
 
+/// The contents of boxes, which are moved out.
+pub fn contents_of(alloc: Global, boxes: Leaves) -> Result<Vec<Tree>, NoMemory>
+    requires { kind_of boxes ≡ sort.Boxed }
+    ensures { IfOk result (λ trees. trees.items ≡ map meant.content_of (atoms_of boxes)) }
+{
+    match boxes {
+        Leaves::Cell(cells) => contents(alloc, cells.into_items()),
+        _ => unreachable!(),
+    }
+}
+
 fn contents(alloc: Global, cells: Vec<Cell>) -> Result<Vec<Tree>, NoMemory>
     ensures { IfOk result (λ trees. trees.items ≡ map meant.content_of (map atom_of cells.items)) }
 {

@@ -5,7 +5,7 @@ mod contents;
 mod made;
 mod verbs;
 
-pub use verbs::{disclose, enclose, level};
+pub use verbs::{disclose, enclose, level, link, raze};
 
 #[cfg(test)]
 mod tests;

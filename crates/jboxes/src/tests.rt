@@ -1,4 +1,4 @@
-use crate::{disclose, enclose, level};
+use crate::{disclose, enclose, level, link, raze};
 use jarray::{Array, Room};
 use jdata::{Bytes, Cell, CellList, Fault, IntList, Leaves, Tree, Trouble};
 use std::alloc::Global;
@@ -85,5 +85,62 @@ fn boxes_are_at_most_64_deep(rt: HostRuntime) -> Result<(), Fail> {
     }
     let refused = enclose(alloc, &mut room, deep);
     assert!(rt; matches!(refused, Err(Trouble::Fault(Fault::Limit))));
+    Ok(())
+}
+
+#[test]
+fn contents_are_razed(rt: HostRuntime) -> Result<(), Fail> {
+    let alloc = rt.alloc();
+    let mut room = Room::none();
+    // `; 1 2 ; 3` is `1 2 3`
+    let two = pair(
+        alloc,
+        integers(alloc, &[2], &[1, 2])?,
+        integers(alloc, &[], &[3])?,
+    )?;
+    let list = raze(alloc, &mut room, Array::of(two))?;
+    assert!(rt; is_same(alloc, &room, list, integers(alloc, &[3], &[1, 2, 3])?));
+    // a row of two before a list of three: the shorter item is filled
+    let two = pair(
+        alloc,
+        integers(alloc, &[1, 2], &[1, 2])?,
+        integers(alloc, &[3], &[3, 4, 5])?,
+    )?;
+    let rows = raze(alloc, &mut room, Array::of(two))?;
+    assert!(rt;
+        is_same(
+            alloc,
+            &room,
+            rows,
+            integers(alloc, &[2, 3], &[1, 2, 0, 3, 4, 5])?
+        )
+    );
+    // what isn't boxed is ravelled
+    let table = Array::of(integers(alloc, &[2, 2], &[1, 2, 3, 4])?);
+    let ravel = raze(alloc, &mut room, table)?;
+    assert!(rt; is_same(alloc, &room, ravel, integers(alloc, &[4], &[1, 2, 3, 4])?));
+    // no boxes give no integers
+    let none = Vec::from_slice(alloc, &[0])?;
+    let none = Tree::new(none, Leaves::Cell(CellList::of(Vec::new(alloc))))?;
+    let empty = raze(alloc, &mut room, Array::of(none))?;
+    assert!(rt; is_same(alloc, &room, empty, integers(alloc, &[0], &[])?));
+    let mixed = pair(alloc, text(alloc, b"a")?, integers(alloc, &[], &[3])?)?;
+    let refused = raze(alloc, &mut room, Array::of(mixed));
+    assert!(rt; matches!(refused, Err(Trouble::Fault(Fault::Domain))));
+    Ok(())
+}
+
+#[test]
+fn arrays_are_linked(rt: HostRuntime) -> Result<(), Fail> {
+    let alloc = rt.alloc();
+    let mut room = Room::none();
+    // `1 ; 'ab'` is two boxes, and `(1 2) ;` them is three
+    let right = Array::of(text(alloc, b"ab")?);
+    let two = link(alloc, &mut room, Array::atom(1), right)?;
+    let expected = pair(alloc, integers(alloc, &[], &[1])?, text(alloc, b"ab")?)?;
+    assert!(rt; two.match_with(&room, &Array::of(expected)));
+    let left = Array::of(integers(alloc, &[2], &[1, 2])?);
+    let three = link(alloc, &mut room, left, two)?;
+    assert_eq!(rt; three.shape(&room), [3].as_slice());
     Ok(())
 }

@@ -1,2 +1,9 @@
+pub mod Coding
+pub mod Deep
+pub mod Found
+pub mod Given
+pub mod Looking
 pub mod Made
 pub mod Pushed
+pub mod Pushing
+pub mod Sought

@@ -1,2 +1,5 @@
+pub mod Codes
+pub mod Finding
+pub mod Listed
 pub mod Steps
 pub mod Turned
