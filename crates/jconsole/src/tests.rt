@@ -193,6 +193,24 @@ fn verbs_on_whole_arrays(rt: HostRuntime) -> Result<(), Fail> {
             "> < 1 2 3\n> (<1) , < 2 3\n> 5\nL. < < 5\nL. 1 2\n(<5) = < 5\n$ < 1 2\n# (<1) , < 2\n",
             "1 2 3\n1 0\n2 3\n5\n2\n0\n1\n\n2\n",
         ),
+        // items that are looked for
+        (
+            "5 3 5 1 i. 5 1 7\n5 3 5 1 i: 5 1 7\n(i. 3 2) i. 2 3\n(i. 3 2) i. 9\n'bead' e. 'abc'\n4 5 6 -. 5\n",
+            "0 3 4\n2 3 4\n1\n3\n1 0 1 0\n4 6\n",
+        ),
+        (
+            "~. 3 1 3 2 1\n~: 3 1 3 2 1\n~. 5\n$ ~. 5\n1 2 -: 1 2\n'' -: i. 0\n7 -: ,7\n",
+            "3 1 2\n1 1 0 1 0\n5\n1\n1\n1\n0\n",
+        ),
+        (
+            "1 ; 'ab'\n; 1 2 ; 3\n; i. 2 2\n# 'a' ; 'b' ; 'a'\n~. 'a' ; 'b' ; 'a'\n('a' ; 'b') i. <'b'\n",
+            "+-+--+\n|1|ab|\n+-+--+\n1 2 3\n0 1 2 3\n3\n+-+-+\n|a|b|\n+-+-+\n1\n",
+        ),
+        // digits
+        (
+            "#: 5\n24 60 #: 125\n24 60 #. 2 5\n#. 1 0 1\n10 #: 11 12 13\n#: 1 2 3\n",
+            "1 0 1\n2 5\n125\n5\n1\n2\n3\n0 1\n1 0\n1 1\n",
+        ),
     ];
     for (script, prints) in rows {
         let run = run_script(rt.alloc(), script.as_bytes(), 64, 0, 0)?;
@@ -235,6 +253,10 @@ fn faults_of_verbs_on_whole_arrays(rt: HostRuntime) -> Result<(), Fail> {
         ("1 + < 2\n", "|domain error\n|   1 + < 2\n"),
         ("> (<1) , < 'a'\n", "|domain error\n|   > (<1) , < 'a'\n"),
         ("1 , < 2\n", "|domain error\n|   1 , < 2\n"),
+        ("; 'a' ; 3\n", "|domain error\n|   ; 'a' ; 3\n"),
+        ("#: _1\n", "|nonce error\n|   #: _1\n"),
+        ("2 3 #. 1 2 3\n", "|length error\n|   2 3 #. 1 2 3\n"),
+        ("10 #: 'a'\n", "|domain error\n|   10 #: 'a'\n"),
         // a valence that is left out
         ("{ 5\n", "|nonce error\n|   { 5\n"),
         ("1 {: 2\n", "|nonce error\n|   1 {: 2\n"),

@@ -5,7 +5,7 @@ use Rattle.jdata.specs.Noun.{shape}
 use Rattle.jdata.specs.declared.fault.Fault.{Fault}
 use Rattle.jdata.specs.declared.fault.Fault.TheVariants.{Domain, Nonce}
 use Rattle.jdata.specs.declared.primitive.Primitive.{Primitive}
-use Rattle.jdata.specs.declared.primitive.Primitive.TheVariants.{Equal, TildeColon, Dollar, Hash, Comma, CommaDot, CommaColon, BarColon, BarDot, LeftBrace, LeftBraceDot, LeftBraceColon, LeftBraceColonColon, RightBraceDot, RightBraceColon, LeftBracket, RightBracket, LeftBracketColon, IDot, IColon, CapitalIDot, Less, Greater, CapitalLDot}
+use Rattle.jdata.specs.declared.primitive.Primitive.TheVariants.{Equal, TildeColon, Dollar, Hash, Comma, CommaDot, CommaColon, BarColon, BarDot, LeftBrace, LeftBraceDot, LeftBraceColon, LeftBraceColonColon, RightBraceDot, RightBraceColon, LeftBracket, RightBracket, LeftBracketColon, IDot, IColon, CapitalIDot, Less, Greater, CapitalLDot, HashDot, HashColon, TildeDot, Semicolon, MinusColon, MinusDot, EDot}
 use Rattle.jdata.specs.declared.noun.Noun.{Noun}
 use Rattle.jdata.specs.declared.noun.Atom.{Atom, Atom-F, out-Atom}
 use Rattle.jdata.specs.declared.noun.Atom.TheOpen as one
@@ -49,6 +49,11 @@ monad_is CapitalIDot h y = cc
 monad_is Less h y = cc
 monad_is Greater h y = cc
 monad_is CapitalLDot h y = cc
+monad_is HashDot h y = cc
+monad_is HashColon h y = cc
+monad_is TildeDot h y = cc
+monad_is TildeColon h y = cc
+monad_is Semicolon h y = cc
 monad_is verb h y = by_integers (monad_on verb) y
 
 -- two meanings of atoms that are one
@@ -109,8 +114,16 @@ by_kind LeftBracket w b h x y = cc
 by_kind RightBracket w b h x y = cc
 by_kind LeftBracketColon w b h x y = cc
 by_kind Hash w b h x y = cc
+by_kind HashDot w b h x y = cc
+by_kind HashColon w b h x y = cc
 by_kind LeftBrace w b h x y = cc
 by_kind LeftBraceColonColon w b h x y = cc
+by_kind MinusColon w b h x y = cc
+by_kind MinusDot w b h x y = cc
+by_kind IDot w b h x y = cc
+by_kind IColon w b h x y = cc
+by_kind EDot w b h x y = cc
+by_kind Semicolon w b h x y = cc
 by_kind verb w b h x y = numbers verb _ refl refl x y
 
 pub dyad_is : (verb : Primitive) → dyads.is_whole (dyads.dyad_of verb) ≡ false → (x y : Noun) → scalar.scalar_dyad verb x y ≡ dyads.given (dyads.dyad_of verb) x y

@@ -22,7 +22,7 @@ use Rattle.jframe.proofs.Assembling.{refused}
 use Rattle.jframe.proofs.Pairing.{at_ranks_is}
 use Rattle.jprim.proofs.OneCell.{whole_cell}
 
-same_places : {A : Type 0} (at other : ℕ → A) (a n : ℕ) → ((j : ℕ) → a ≤ j → j < a + n → at j ≡ other j) → map at (range_with_len a n) ≡ map other (range_with_len a n)
+pub same_places : {A : Type 0} (at other : ℕ → A) (a n : ℕ) → ((j : ℕ) → a ≤ j → j < a + n → at j ≡ other j) → map at (range_with_len a n) ≡ map other (range_with_len a n)
 same_places at other a zero h = refl
 same_places at other a (suc n) h =
     let first = h a (omega arith) (omega arith) in
@@ -49,7 +49,7 @@ pair_is meant x y p a i h =
 abbrev pub of_each : (Noun → Noun → Result Noun Fault) → List ℕ → Noun → Noun → ℕ → Result (List Noun) Fault
 of_each meant cell x y n = all_or_first (map (λ i. meant (nth_cell cell x i) y) (range_with_len 0 n))
 
-look_is : (left : Option ℤ) (meant : Noun → Noun → Result Noun Fault) (x y : Noun) (p : Parted) → p ≡ parted left (shape x) → IsArray y → product p.frame ≢ 0 →
+pub look_is : (left : Option ℤ) (meant : Noun → Noun → Result Noun Fault) (x y : Noun) (p : Parted) → p ≡ parted left (shape x) → IsArray y → product p.frame ≢ 0 →
     at_ranks left None meant x y ≡ and_then (of_each meant p.cell x y (product p.frame)) (assembled p.frame)
 look_is left meant x y p e a some =
     at_ranks_is left None meant x y p (parted None (shape y)) p.frame e refl (alone_agrees p.frame)

@@ -4,18 +4,22 @@ use Rattle.jdata.specs.Noun.{shape, atoms, product}
 use Rattle.jdata.specs.declared.fault.Fault.{Fault}
 use Rattle.jdata.specs.declared.fault.Fault.TheVariants.{Nonce, Domain, Length}
 use Rattle.jdata.specs.declared.primitive.Primitive.{Primitive}
-use Rattle.jdata.specs.declared.primitive.Primitive.TheVariants.{Equal, TildeColon, Dollar, Comma, CommaDot, CommaColon, BarColon, BarDot, LeftBraceDot, RightBraceDot, LeftBracket, RightBracket, LeftBracketColon, Hash, LeftBrace, LeftBraceColonColon}
+use Rattle.jdata.specs.declared.primitive.Primitive.TheVariants.{Equal, TildeColon, Dollar, Comma, CommaDot, CommaColon, BarColon, BarDot, LeftBraceDot, RightBraceDot, LeftBracket, RightBracket, LeftBracketColon, Hash, HashDot, HashColon, LeftBrace, LeftBraceColonColon, MinusColon, MinusDot, IDot, IColon, EDot, Semicolon}
 use Rattle.jdata.specs.declared.noun.Noun.{Noun}
 use Rattle.jdata.specs.declared.noun.Atom.{Atom, Atom-F, out-Atom}
 use Rattle.jdata.specs.declared.noun.Atom.TheOpen as one
 use Rattle.jarray.specs.Matches.{equal_atoms}
 use Rattle.jarray.specs.Numbers.{is_integers, integers}
+use Rattle.jboxes.specs.Dyads as links
+use Rattle.jsearch.specs.Finding as finding
 use Rattle.jscalar.specs.Dyads.{dyad_on}
 use Rattle.jscalar.specs.Places.{by_place}
 use Rattle.jscalar.specs.Truths.{truth}
 use Rattle.jshape.specs.Agreement.{longer, repeated}
 use Rattle.jdyad.specs.Dyads.{atom_for}
 use Rattle.jframe.specs.Ranks.{at_ranks}
+use Rattle.jradix.specs.Bases as bases
+use Rattle.jradix.specs.Digits as digits
 use Rattle.jselect.specs.Copies as copies
 use Rattle.jselect.specs.From as choosing
 use Rattle.jstruct.specs.Axes as axes
@@ -62,8 +66,16 @@ dyad_of LeftBracket = Whole None None sides.left
 dyad_of RightBracket = Whole None None sides.right
 dyad_of LeftBracketColon = Whole None None sides.capped_dyad
 dyad_of Hash = Whole (Some (pos 1)) None copies.copied
+dyad_of HashDot = Whole (Some (pos 1)) (Some (pos 1)) bases.based
+dyad_of HashColon = Whole (Some (pos 1)) (Some (pos 0)) digits.digits
 dyad_of LeftBrace = Whole (Some (pos 0)) None choosing.selected
 dyad_of LeftBraceColonColon = Whole (Some (pos 1)) None choosing.fetched
+dyad_of MinusColon = Whole None None finding.matched
+dyad_of MinusDot = Whole None None finding.less
+dyad_of IDot = Whole None None finding.index_of
+dyad_of IColon = Whole None None finding.last_index_of
+dyad_of EDot = Whole None None finding.member
+dyad_of Semicolon = Whole None None links.linked
 dyad_of verb = on_integers (dyad_on verb)
 
 -- what a meaning on integers gives of two atoms

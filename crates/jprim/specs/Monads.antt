@@ -3,12 +3,15 @@ use Rattle.std.specs.Prelude.{Bool, true, false, ℤ, pos, Option, Some, None, R
 use Rattle.jdata.specs.declared.fault.Fault.{Fault}
 use Rattle.jdata.specs.declared.fault.Fault.TheVariants.{Nonce}
 use Rattle.jdata.specs.declared.primitive.Primitive.{Primitive}
-use Rattle.jdata.specs.declared.primitive.Primitive.TheVariants.{Dollar, Hash, Comma, CommaDot, CommaColon, BarColon, BarDot, LeftBraceDot, LeftBraceColon, RightBraceDot, RightBraceColon, LeftBracket, RightBracket, LeftBracketColon, IDot, IColon, CapitalIDot, Less, Greater, CapitalLDot}
+use Rattle.jdata.specs.declared.primitive.Primitive.TheVariants.{Dollar, Hash, Comma, CommaDot, CommaColon, BarColon, BarDot, LeftBraceDot, LeftBraceColon, RightBraceDot, RightBraceColon, LeftBracket, RightBracket, LeftBracketColon, IDot, IColon, CapitalIDot, Less, Greater, CapitalLDot, HashDot, HashColon, TildeDot, TildeColon, Semicolon}
 use Rattle.jdata.specs.declared.noun.Noun.{Noun}
 use Rattle.jboxes.specs.Monads as boxes
 use Rattle.jframe.specs.Ranks.{at_rank}
 use Rattle.jscalar.specs.Monads.{monad_on}
 use Rattle.jmono.specs.Monads.{each_integer}
+use Rattle.jradix.specs.Bases as bases
+use Rattle.jradix.specs.Digits as digits
+use Rattle.jsearch.specs.Finding as finding
 use Rattle.jsearch.specs.Steps as steps
 use Rattle.jsearch.specs.Turned as turned
 use Rattle.jselect.specs.Copies as copies
@@ -55,6 +58,11 @@ monad_of CapitalIDot = Whole (Some (pos 1)) steps.indices
 monad_of Less = Whole None boxes.enclosed
 monad_of Greater = Whole (Some (pos 0)) boxes.disclosed
 monad_of CapitalLDot = Whole None boxes.level_of
+monad_of HashDot = Whole (Some (pos 1)) bases.based_two
+monad_of HashColon = Whole None digits.binary
+monad_of TildeDot = Whole None finding.nub
+monad_of TildeColon = Whole None finding.sieve
+monad_of Semicolon = Whole None boxes.razed
 monad_of verb = on_integers (monad_on verb)
 
 -- what a row gives of an array

@@ -1,5 +1,9 @@
 //! The verbs of two whole arrays: each with its kernel.
 
+ghost use Rattle.jradix.specs.Bases as bases;
+ghost use Rattle.jradix.specs.Digits as digits;
+ghost use Rattle.jboxes.specs.Dyads as links;
+ghost use Rattle.jsearch.specs.Finding as finding;
 ghost use Rattle.jselect.specs.Copies as copies;
 ghost use Rattle.jselect.specs.From as choosing;
 ghost use Rattle.jstruct.specs.Axes as axes;
@@ -164,5 +168,93 @@ impl WholeDyad for Fetched {
 
     fn apply(alloc: Global, room: &mut Room, x: Array, y: Array) -> Result<Array, Trouble> {
         jselect::fetch(alloc, room, x, y)
+    }
+}
+
+/// The number of the digits y in the bases x.
+pub struct Based;
+
+impl WholeDyad for Based {
+    ghost meant = { bases.based };
+
+    fn apply(alloc: Global, room: &mut Room, x: Array, y: Array) -> Result<Array, Trouble> {
+        jradix::base(alloc, room, x, y)
+    }
+}
+
+/// The digits of the number y in the bases x.
+pub struct Digits;
+
+impl WholeDyad for Digits {
+    ghost meant = { digits.digits };
+
+    fn apply(alloc: Global, room: &mut Room, x: Array, y: Array) -> Result<Array, Trouble> {
+        jradix::digits(alloc, room, x, y)
+    }
+}
+
+/// Whether the two match.
+pub struct Matched;
+
+impl WholeDyad for Matched {
+    ghost meant = { finding.matched };
+
+    fn apply(alloc: Global, room: &mut Room, x: Array, y: Array) -> Result<Array, Trouble> {
+        jsearch::matched(alloc, room, x, y)
+    }
+}
+
+/// The items of x that match no item of y.
+pub struct Less;
+
+impl WholeDyad for Less {
+    ghost meant = { finding.less };
+
+    fn apply(alloc: Global, room: &mut Room, x: Array, y: Array) -> Result<Array, Trouble> {
+        jsearch::less(alloc, room, x, y)
+    }
+}
+
+/// The first place of each cell of y among the items of x.
+pub struct IndexOf;
+
+impl WholeDyad for IndexOf {
+    ghost meant = { finding.index_of };
+
+    fn apply(alloc: Global, room: &mut Room, x: Array, y: Array) -> Result<Array, Trouble> {
+        jsearch::index_of(alloc, room, x, y)
+    }
+}
+
+/// The last place of each cell of y among the items of x.
+pub struct LastIndexOf;
+
+impl WholeDyad for LastIndexOf {
+    ghost meant = { finding.last_index_of };
+
+    fn apply(alloc: Global, room: &mut Room, x: Array, y: Array) -> Result<Array, Trouble> {
+        jsearch::last_index_of(alloc, room, x, y)
+    }
+}
+
+/// Whether each cell of x is among the items of y.
+pub struct Member;
+
+impl WholeDyad for Member {
+    ghost meant = { finding.member };
+
+    fn apply(alloc: Global, room: &mut Room, x: Array, y: Array) -> Result<Array, Trouble> {
+        jsearch::member(alloc, room, x, y)
+    }
+}
+
+/// The box of x, and behind it y.
+pub struct Linked;
+
+impl WholeDyad for Linked {
+    ghost meant = { links.linked };
+
+    fn apply(alloc: Global, room: &mut Room, x: Array, y: Array) -> Result<Array, Trouble> {
+        jboxes::link(alloc, room, x, y)
     }
 }

@@ -1,6 +1,6 @@
 //! `{`, whose right argument is only looked at.
 
-ghost use Rattle.std.specs.Prelude.{◌≡◌, ◌++◌, pos, map, Some, None};
+ghost use Rattle.std.specs.Prelude.{◌≡◌, ◌++◌, pos, map, Some, None, IfSome};
 ghost use Rattle.std.specs.List.{range_with_len};
 ghost use Rattle.jarray.specs.Placed.{Gives};
 ghost use Rattle.jdata.specs.Answers.{Answers};
@@ -15,12 +15,42 @@ use crate::dyads::Selected;
 use jarray::{Array, Room};
 use jdata::{NoMemory, Trouble};
 use jframe::{Cells, Results, at_ranks, cells};
-use jselect::from_among;
+use jselect::{from_among, items_named};
 use jshape::Shape;
 use std::alloc::Global;
 
 /// What each atom of `x` names in `y`, which isn't copied for it.
 pub fn from_each(alloc: Global, room: &mut Room, x: Array, y: Array) -> Result<Array, Trouble>
+    ensures { Gives (ranks.at_ranks (Some (pos 0)) None choosing.selected x.noun y.noun) result }
+{
+    match items_each(alloc, room, &x, &y) {
+        Some(answer) => {
+            x.done(room);
+            y.done(room);
+            answer
+        }
+        None => cells_each(alloc, room, x, y),
+    }
+}
+
+/// The items that the integers of `x` name, where it has some: they are known without a cell for each.
+fn items_each(alloc: Global, room: &Room, x: &Array, y: &Array) -> Option<Result<Array, Trouble>>
+    ensures { IfSome result (λ r. Gives (ranks.at_ranks (Some (pos 0)) None choosing.selected x.now.noun y.now.noun) r) }
+{
+    let numbers = x.numbers(room)?;
+    if numbers.is_empty() {
+        return None;
+    }
+    // as an array it has its items
+    let _shape = y.shape(room);
+    match items_named(alloc, room, x.shape(room), numbers, y) {
+        Ok(tree) => Some(Ok(Array::of(tree))),
+        Err(trouble) => Some(Err(trouble)),
+    }
+}
+
+/// What each atom names, one after another.
+fn cells_each(alloc: Global, room: &mut Room, x: Array, y: Array) -> Result<Array, Trouble>
     ensures { Gives (ranks.at_ranks (Some (pos 0)) None choosing.selected x.noun y.noun) result }
 {
     let cells = match cells(alloc, room, &x, Some(0)) {

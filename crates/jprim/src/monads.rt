@@ -1,6 +1,9 @@
 //! The verbs of one whole array: each with its kernel.
 
 ghost use Rattle.jboxes.specs.Monads as boxes;
+ghost use Rattle.jradix.specs.Bases as bases;
+ghost use Rattle.jradix.specs.Digits as digits;
+ghost use Rattle.jsearch.specs.Finding as finding;
 ghost use Rattle.jsearch.specs.Steps as steps;
 ghost use Rattle.jsearch.specs.Turned as turned;
 ghost use Rattle.jselect.specs.Copies as copies;
@@ -221,5 +224,60 @@ impl WholeMonad for LevelOf {
 
     fn apply(alloc: Global, room: &mut Room, y: Array) -> Result<Array, Trouble> {
         jboxes::level(alloc, room, y)
+    }
+}
+
+/// The number of binary digits.
+pub struct BaseTwo;
+
+impl WholeMonad for BaseTwo {
+    ghost meant = { bases.based_two };
+
+    fn apply(alloc: Global, room: &mut Room, y: Array) -> Result<Array, Trouble> {
+        jradix::base_two(alloc, room, y)
+    }
+}
+
+/// The binary digits of each number.
+pub struct Binary;
+
+impl WholeMonad for Binary {
+    ghost meant = { digits.binary };
+
+    fn apply(alloc: Global, room: &mut Room, y: Array) -> Result<Array, Trouble> {
+        jradix::binary(alloc, room, y)
+    }
+}
+
+/// The items that match no earlier one.
+pub struct Nub;
+
+impl WholeMonad for Nub {
+    ghost meant = { finding.nub };
+
+    fn apply(alloc: Global, room: &mut Room, y: Array) -> Result<Array, Trouble> {
+        jsearch::nub(alloc, room, y)
+    }
+}
+
+/// Which items match no earlier one.
+pub struct Sieve;
+
+impl WholeMonad for Sieve {
+    ghost meant = { finding.sieve };
+
+    fn apply(alloc: Global, room: &mut Room, y: Array) -> Result<Array, Trouble> {
+        jsearch::sieve(alloc, room, y)
+    }
+}
+
+/// The items of all contents.
+pub struct Raze;
+
+impl WholeMonad for Raze {
+    ghost meant = { boxes.razed };
+
+    fn apply(alloc: Global, room: &mut Room, y: Array) -> Result<Array, Trouble> {
+        jboxes::raze(alloc, room, y)
     }
 }

@@ -233,12 +233,17 @@ fn dyads_on_whole_arrays(rt: HostRuntime) -> Result<(), Fail> {
             three,
             Ok((&[2], &[7, 5])),
         ),
-        (Primitive::LeftBrace, (&[], &[5]), three, Err(Fault::Index)),
         (
             Primitive::LeftBrace,
-            (&[], &[-1]),
+            (&[2], &[0, 5]),
+            three,
+            Err(Fault::Index),
+        ),
+        (
+            Primitive::LeftBrace,
+            (&[2, 1], &[-1, 0]),
             SIX,
-            Ok((&[3], &[3, 4, 5])),
+            Ok((&[2, 1, 3], &[3, 4, 5, 0, 1, 2])),
         ),
         (
             Primitive::LeftBraceColonColon,

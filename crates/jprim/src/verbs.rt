@@ -44,6 +44,11 @@ pub fn monad(alloc: Global, room: &mut Room, verb: Primitive, y: Array) -> Resul
         Primitive::Less => ranked_monad::<monads::Enclose>(alloc, room, None, y),
         Primitive::Greater => ranked_monad::<monads::Disclose>(alloc, room, Some(0), y),
         Primitive::CapitalLDot => ranked_monad::<monads::LevelOf>(alloc, room, None, y),
+        Primitive::HashDot => ranked_monad::<monads::BaseTwo>(alloc, room, Some(1), y),
+        Primitive::HashColon => ranked_monad::<monads::Binary>(alloc, room, None, y),
+        Primitive::TildeDot => ranked_monad::<monads::Nub>(alloc, room, None, y),
+        Primitive::TildeColon => ranked_monad::<monads::Sieve>(alloc, room, None, y),
+        Primitive::Semicolon => ranked_monad::<monads::Raze>(alloc, room, None, y),
         _ => each_atom(alloc, room, verb, y),
     }
 }
@@ -86,10 +91,18 @@ pub fn dyad(
             alloc, room, None, None, x, y,
         ),
         Primitive::Hash => ranked_dyad::<dyads::Copied>(alloc, room, Some(1), None, x, y),
+        Primitive::HashDot => ranked_dyad::<dyads::Based>(alloc, room, Some(1), Some(1), x, y),
+        Primitive::HashColon => ranked_dyad::<dyads::Digits>(alloc, room, Some(1), Some(0), x, y),
         Primitive::LeftBrace => from_each(alloc, room, x, y),
         Primitive::LeftBraceColonColon => {
             ranked_dyad::<dyads::Fetched>(alloc, room, Some(1), None, x, y)
         }
+        Primitive::MinusColon => ranked_dyad::<dyads::Matched>(alloc, room, None, None, x, y),
+        Primitive::MinusDot => ranked_dyad::<dyads::Less>(alloc, room, None, None, x, y),
+        Primitive::IDot => ranked_dyad::<dyads::IndexOf>(alloc, room, None, None, x, y),
+        Primitive::IColon => ranked_dyad::<dyads::LastIndexOf>(alloc, room, None, None, x, y),
+        Primitive::EDot => ranked_dyad::<dyads::Member>(alloc, room, None, None, x, y),
+        Primitive::Semicolon => ranked_dyad::<dyads::Linked>(alloc, room, None, None, x, y),
         _ => each_pair(alloc, room, verb, x, y),
     }
 }
