@@ -1,6 +1,6 @@
 #!/bin/sh
 # Nanoseconds an atom of scalar verbs, least of five runs: scripts that name a list and give the value of a verb on it to
-# another name again and again, less the time of the same scripts without the verb. Beside each dyad the same loop in C
+# another name again and again, less the time of the same scripts with a verb in its place that hands an argument on. Beside each dyad the same loop in C
 # (gcc -O2), with its check for overflow, and NumPy, which has none, where python3 has it. On 32,000 atoms and on 10.
 # No part of the gate.
 cd "$(dirname "$0")/.." || exit 1
@@ -54,12 +54,12 @@ P
 # least COMMAND..: the least of five
 least() { for _ in 1 2 3 4 5; do "$@" 2> /dev/null; done | sort -n | head -n 1; }
 
-# row NAME ATOMS ROUNDS TEXT [VERB]
+# row NAME ATOMS ROUNDS TEXT BASE [VERB]
 row() {
-    base=$(least seconds "$2" "$3" a) all=$(least seconds "$2" "$3" "$4") c='' numpy=''
-    if [ -n "$5" ]; then
-        c=$(least "$work/loop" "$2" "$3" "$5")
-        numpy=$(least python3 "$work/loop.py" "$2" "$3" "$5")
+    base=$(least seconds "$2" "$3" "$5") all=$(least seconds "$2" "$3" "$4") c='' numpy=''
+    if [ -n "$6" ]; then
+        c=$(least "$work/loop" "$2" "$3" "$6")
+        numpy=$(least python3 "$work/loop.py" "$2" "$3" "$6")
     fi
     awk -v name="$1" -v n="$2" -v r="$3" -v all="$all" -v base="$base" -v c="$c" -v numpy="$numpy" 'BEGIN {
         printf "%-4s on %5d: %6.2f ns an atom", name, n, (all - base) / n / r * 1e9
@@ -69,11 +69,11 @@ row() {
 }
 
 for verb in + - '<.' '<' '*' '|'; do
-    row "$verb" 32000 20000 "a $verb a" "$verb"
+    row "$verb" 32000 20000 "a $verb a" 'a [ a' "$verb"
 done
 for verb in - '*:' '>:'; do
-    row "$verb y" 32000 20000 "$verb a"
+    row "$verb y" 32000 20000 "$verb a" '] a'
 done
 for verb in + '*'; do
-    row "$verb" 10 400000 "a $verb a" "$verb"
+    row "$verb" 10 400000 "a $verb a" a "$verb"
 done
