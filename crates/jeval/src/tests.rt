@@ -73,13 +73,13 @@ fn names_and_their_values(rt: HostRuntime) -> Result<(), Fail> {
             "|value error\n|   a =: a + 1\n|value error\n|   a\n",
         ),
         (
-            "a =: ~. 3\na",
-            "|nonce error\n|   a =: ~. 3\n|value error\n|   a\n",
+            "a =: 1 ~. 3\na",
+            "|nonce error\n|   a =: 1 ~. 3\n|value error\n|   a\n",
         ),
         // the rows before a verb that isn't built act
         (
-            "b =: ~. a =: 4\na\nb",
-            "|nonce error\n|   b =: ~. a =: 4\n4\n|value error\n|   b\n",
+            "b =: 1 ~. a =: 4\na\nb",
+            "|nonce error\n|   b =: 1 ~. a =: 4\n4\n|value error\n|   b\n",
         ),
         // a verb's name is looked up each time it is run
         ("s =: -\ns 5\ns =: +\ns 5\n2 s 3", "_5\n5\n5\n"),
@@ -203,7 +203,7 @@ fn words_that_are_refused(rt: HostRuntime) -> Result<(), Fail> {
         ("a_ =: 1", "|spelling error\n|   a_ =: 1\n"),
         ("a_p_ =: 1", "|nonce error\n|   a_p_ =: 1\n"),
         ("a__b", "|nonce error\n|   a__b\n"),
-        ("  ~. 3\t", "|nonce error\n|   ~. 3\n"),
+        ("  1 ~. 3\t", "|nonce error\n|   1 ~. 3\n"),
         ("3 L. 1 2 NB. none", "|nonce error\n|   3 L. 1 2 NB. none\n"),
         ("i. 3abc", "|ill-formed number\n|   i. 3abc\n"),
         ("a_ 'b", "|spelling error\n|   a_ 'b\n"),
