@@ -261,7 +261,7 @@ fn faults_of_verbs_on_whole_arrays(rt: HostRuntime) -> Result<(), Fail> {
         ("{ 5\n", "|nonce error\n|   { 5\n"),
         ("1 {: 2\n", "|nonce error\n|   1 {: 2\n"),
         ("1 }: 2\n", "|nonce error\n|   1 }: 2\n"),
-        ("3 -. 4\n", "|nonce error\n|   3 -. 4\n"),
+        ("3 ~. 4\n", "|nonce error\n|   3 ~. 4\n"),
         ("0 T. 0\n", "|nonce error\n|   0 T. 0\n"),
     ];
     for (script, prints) in rows {
