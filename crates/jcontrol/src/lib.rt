@@ -8,3 +8,6 @@ mod rounds;
 pub use frame::{Frame, Reply, Step};
 pub use prepared::{Act, Prepared, after, refuses};
 pub use rounds::enough_rounds;
+
+#[cfg(test)]
+mod tests;

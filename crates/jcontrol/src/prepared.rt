@@ -6,11 +6,20 @@ ghost use Rattle.jcontrol.specs.Machine.{after, chosen, refuses};
 #[derive(Clone, Copy, Debug, PartialEq, Eq)]
 pub enum Act {
     /// A sentence is run; it stands in this test.
-    Sentence { number: u32, test: Option<u32> },
+    Sentence {
+        number: u32,
+        test: Option<u32>,
+    },
     /// A test starts; control goes on there.
-    TestStart { word: u32, to: usize },
+    TestStart {
+        word: u32,
+        to: usize,
+    },
     /// A test ends; where it doesn't hold, control goes on there.
-    Test { word: u32, failed: usize },
+    Test {
+        word: u32,
+        failed: usize,
+    },
     /// An assertion ends.
     Assert(u32),
     /// A round of a `while.` starts.
