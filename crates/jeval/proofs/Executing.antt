@@ -1,16 +1,18 @@
 -- The execution of a sentence step by step: a word is read, a row acts, or it ends. The bound on the rows never decides.
-use Rattle.std.proofs.Common.{◌≡◌, ◌≤◌, ◌<◌, ℕ, zero, suc, Bool, true, false, if◌then◌else◌, nat_lt, length, List, [], ◌∷◌, Option, Some, None, Result, Ok, Err, arith, refl, ap, sym, ◌∙◌}
+use Rattle.std.proofs.Common.{◌≡◌, ◌≤◌, ◌<◌, ◌⊎◌, inl, inr, ℕ, zero, suc, Bool, true, false, if◌then◌else◌, nat_lt, length, List, [], ◌∷◌, Option, Some, None, Result, Ok, Err, arith, refl, ap, sym, ◌∙◌}
 use Rattle.std.proofs.lemmas.Bool.Decides.{nat_tests}
 use Rattle.jdata.specs.declared.fault.Fault.{Fault}
-use Rattle.jdata.specs.declared.fault.Fault.TheVariants.{Syntax}
+use Rattle.jdata.specs.declared.fault.Fault.TheVariants.{Syntax, TimeLimit}
 use Rattle.juses.specs.Program.{◌>>=◌}
 use Rattle.jterm.specs.declared.part.Part.{Part}
+use Rattle.jterm.specs.declared.term.Term.{Term}
+use Rattle.jeval.specs.Activity.{written}
 use Rattle.jeval.specs.declared.queue.Queued.{Queued}
 use Rattle.jeval.specs.declared.state.State.{State}
 use Rattle.jparse.specs.declared.table.Act.{Act}
 use Rattle.jparse.specs.declared.table.Act.TheVariants as act
 use Rattle.jeval.specs.Action.{Action, Rest, gives, fails, going_on, ◌then◌}
-use Rattle.jeval.specs.Execution.{Ending, Acts, acted, late, by_row, read_on, ended, moved_in, is_assignment, executed, executed_within}
+use Rattle.jeval.specs.Execution.{Ending, Acts, acted, all_written, by_row, read_on, ended, moved_in, is_assignment, executed, executed_within}
 use Rattle.jparse.specs.Parsing.{row_at, top_of, is_whole, act_or, act_of}
 use Rattle.jeval.proofs.Turning.{Within, Fewer, bind_alike, keeps_moved_in, falls_acted, late_row}
 
@@ -60,10 +62,10 @@ pub within_alike : (levels m n : ℕ) (queue : List Queued) (parts : List Part) 
 unfolding executed_within
 within_alike levels zero zero queue parts assigned s a b = refl
 within_alike levels zero (suc n) queue parts assigned s a b =
-    read_alike (λ row queue parts. fails (late row)) (acts_within levels n) 0
+    read_alike (λ row queue parts. fails TimeLimit) (acts_within levels n) 0
     (λ row queue parts t none. sym (late_row levels row parts (λ more. executed_within levels n queue more (is_assignment row)) t (omega (arith, none)))) queue parts assigned s a
 within_alike levels (suc m) zero queue parts assigned s a b =
-    read_alike (acts_within levels m) (λ row queue parts. fails (late row)) 0
+    read_alike (acts_within levels m) (λ row queue parts. fails TimeLimit) 0
     (λ row queue parts t none. late_row levels row parts (λ more. executed_within levels m queue more (is_assignment row)) t (omega (arith, none))) queue parts assigned s b
 within_alike levels (suc m) (suc n) queue parts assigned s a b =
     read_alike (acts_within levels m) (acts_within levels n) s.left
@@ -165,3 +167,16 @@ pub is_unmeant : (levels : ℕ) (queue : List Queued) (parts : List Part) (assig
 is_unmeant levels queue parts assigned n s all h =
     let why = unmeant_when (row_at parts) (nat_lt 0 n) (is_whole (top_of parts)) h in
     ended_whole levels queue parts assigned false s (none_left queue n all why.1) why.0 why.2
+
+-- the names of a quoted target: no more of them or of values, and one more of both
+written_without : (names : List (List ℕ)) (after : List Part) → all_written names [] after ≡ gives after
+written_without [] after = refl
+written_without (name ∷ names) after = refl
+
+pub all_are_written : (names : List (List ℕ)) (values : List Term) (after : List Part) (s : State) → (names ≡ []) ⊎ (values ≡ []) → all_written names values after s ≡ gives after s
+all_are_written names values after s (inl none) = ap (λ ns. all_written ns values after s) none
+all_are_written names values after s (inr none) = ap (λ vs. all_written names vs after s) none ∙ ap (λ (p : Action (List Part)). p s) (written_without names after)
+
+pub one_is_written : (names more : List (List ℕ)) (values others : List Term) (name : List ℕ) (value : Term) (after : List Part) (s : State) → names ≡ name ∷ more → values ≡ value ∷ others
+    → all_written names values after s ≡ (written name value then (λ reply. all_written more others after)) s
+one_is_written names more values others name value after s n v = (λ i. all_written (n i) (v i) after s)

@@ -6,3 +6,5 @@ pub mod Lines
 pub mod Kernels
 pub mod Reading
 pub mod Splitting
+pub mod Quoted
+pub mod Makings

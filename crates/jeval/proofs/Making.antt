@@ -64,6 +64,11 @@ module _ {S : Type 0} (uses : Relations S) where
   no_memory : {A : Type 0} (a : Activity S) (p : Action A) (halt : Halt) → halt ≡ NoMemory → Made a a p (Err (end.Halt halt))
   no_memory a p halt is = let P : Halt → Type 0 = λ h. Made a a p (Err (end.Halt h)) in subst P (sym is) (is_wanting a p)
 
+  -- there was no memory for what goes before
+  pub wants : {A B : Type 0} {a : Activity S} (v : A) (p : Action B) (why : EvalEnd) → Gives v (Err why) → Made a a p (Err why)
+  wants v p (end.Fault e) h = absurd h
+  wants {a = a} v p (end.Halt halt) h = no_memory a p halt h
+
   pub given : {A : Type 0} {a : Activity S} (v : A) (r : Result A EvalEnd) → Gives v r → Made a a (gives v) r
   given {a = a} v (Ok b) h = record { same = refl; made = rw h (returns uses a.who a.uses (Ok v, a.state)) }
   given {a = a} v (Err (end.Fault e)) h = absurd h

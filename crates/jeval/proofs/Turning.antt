@@ -1,12 +1,12 @@
 -- How turns are taken, and that no action gives one back.
-use Rattle.std.proofs.Common.{◌≡◌, ◌≢◌, ◌≤◌, ◌<◌, ◌-◌, ◌+◌, ℕ, zero, suc, Bool, true, false, if◌then◌else◌, List, ◌∷◌, Option, Some, None, Result, Ok, Err, arith, refl, ap, ◌∙◌}
+use Rattle.std.proofs.Common.{◌≡◌, ◌≢◌, ◌≤◌, ◌<◌, ◌-◌, ◌+◌, ℕ, ℤ, zero, suc, Bool, true, false, if◌then◌else◌, List, [], ◌∷◌, Option, Some, None, Result, Ok, Err, arith, refl, ap, sym, ◌∙◌}
 use Rattle.jdata.specs.declared.fault.Fault.{Fault}
-use Rattle.jdata.specs.declared.fault.Fault.TheVariants.{TimeLimit, Stack, Syntax, Nonce, Domain}
+use Rattle.jdata.specs.declared.fault.Fault.TheVariants.{TimeLimit, Stack, Syntax, Nonce}
+use Rattle.jdata.specs.Noun.{int_atom}
 use Rattle.jdata.specs.declared.noun.Noun.{Noun}
 use Rattle.jdata.specs.declared.primitive.Primitive.{Primitive}
 use Rattle.jterm.specs.declared.term.Locative.{Locative}
 use Rattle.jterm.specs.declared.term.Term.{Term}
-use Rattle.jterm.specs.declared.term.Term.TheVariants as term
 use Rattle.juses.specs.Program.{Program, Return, Ask, ◌>>=◌}
 use Rattle.juses.specs.Wishes.{Wish}
 use Rattle.juses.specs.declared.uses.Reply.{Reply}
@@ -15,14 +15,19 @@ use Rattle.jterm.specs.declared.part.Part.TheVariants as part
 use Rattle.jeval.specs.declared.queue.Queued.{Queued}
 use Rattle.jeval.specs.declared.queue.Queued.TheVariants.{Ready, Named}
 use Rattle.jeval.specs.declared.rows.Deed.{Deed}
-use Rattle.jeval.specs.declared.rows.Deed.TheVariants.{Apply, Assign, Leave, Refuse}
+use Rattle.jeval.specs.declared.rows.Deed.TheVariants.{Apply, Make, Assign, Spread, Leave, Refuse}
 use Rattle.jeval.specs.declared.state.State.{State}
 use Rattle.jeval.specs.Action.{Action, asks, gives, fails, answers, going_on, ◌then◌, with_turn, with_left, turn_of}
 use Rattle.jeval.specs.Activity.{read, written}
-use Rattle.jeval.specs.Applying.{applied, refusal, referred, sought_in, verb_replied}
-use Rattle.jeval.specs.Execution.{moved_in, moved_value, value_of, plain_reference, term_of, assigned, done, acted, late}
+use Rattle.jeval.specs.declared.applying.Way.{Way}
+use Rattle.jeval.specs.declared.applying.Way.TheVariants as way
+use Rattle.jeval.specs.Applying.{applied, applied_by, layer, layer_by, ran, ran_if, reference_in, referred, sought_in, verb_replied, way_of}
+use Rattle.jplan.specs.Plans.{Derivation, train}
+use Rattle.jeval.specs.Execution.{moved_in, moved_value, value_of, plain_reference, assigned, all_written, done, acted}
+use Rattle.jeval.specs.Makings.{term_of, made_of}
 use Rattle.jparse.specs.Parsing.{awaits_target}
-use Rattle.jeval.specs.Rows.{is_built, deed_of, filled}
+use Rattle.jeval.specs.Rows.{deed_of, filled}
+use Rattle.jeval.specs.Targets.{spread}
 use Rattle.jeval.specs.Verbs.{primitive}
 
 -- each answer that the program can end with is one of these
@@ -102,42 +107,54 @@ keeps_sought_in : (place : Option (List ℕ)) (name : List ℕ) → Keeps (sough
 keeps_sought_in None name = keeps_then (read name) (λ reply. answers (verb_replied reply)) (keeps_read name) (λ reply. keeps_return (verb_replied reply))
 keeps_sought_in (Some place) name = keeps_return {A = Term} (Err Nonce)
 
+keeps_ran : (meant : Term → Option Noun → Noun → Action Noun) → ((verb : Term) (x : Option Noun) (y : Noun) → Keeps (meant verb x y)) → (d : Derivation) → Keeps (ran meant d)
+keeps_ran meant k (Return value) = keeps_return (Ok value)
+keeps_ran meant k (Ask a next) = keeps_then (meant a.verb a.x a.y) (λ value. ran meant (next value)) (k a.verb a.x a.y) (λ value. keeps_ran meant k (next value))
+
+keeps_ran_if : (meant : Term → Option Noun → Noun → Action Noun) → ((verb : Term) (x : Option Noun) (y : Noun) → Keeps (meant verb x y)) → (o : Option Derivation) → Keeps (ran_if meant o)
+keeps_ran_if meant k (Some d) = keeps_ran meant k d
+keeps_ran_if meant k None = keeps_return {A = Noun} (Err Nonce)
+
+keeps_layer_by : (meant : Term → Option Noun → Noun → Action Noun) → ((verb : Term) (x : Option Noun) (y : Noun) → Keeps (meant verb x y)) → (o : Option Locative) (t : Term) (x : Option Noun) (y : Noun) → Keeps (layer_by meant o t x y)
+keeps_layer_by meant k (Some name) t x y = keeps_then (referred name) (λ verb. meant verb x y) (keeps_sought_in name.place name.name) (λ verb. k verb x y)
+keeps_layer_by meant k None t x y = keeps_ran_if meant k (train t x y)
+
+keeps_applied_by : (levels : ℕ) (w : Way) (t : Term) (x : Option Noun) (y : Noun) → Keeps (applied_by levels w t x y)
+unfolding applied_by
+keeps_applied_by zero (way.Primitive verb) t x y = keeps_return (primitive verb x y)
+keeps_applied_by (suc levels) (way.Primitive verb) t x y = keeps_return (primitive verb x y)
+keeps_applied_by zero (way.Constant n) t x y = keeps_return (Ok (int_atom n))
+keeps_applied_by (suc levels) (way.Constant n) t x y = keeps_return (Ok (int_atom n))
+keeps_applied_by zero (way.Refused fault) t x y = keeps_return {A = Noun} (Err fault)
+keeps_applied_by (suc levels) (way.Refused fault) t x y = keeps_return {A = Noun} (Err fault)
+keeps_applied_by zero way.Derived t x y = keeps_turn (fails {A = Noun} Stack) (keeps_return {A = Noun} (Err Stack))
+keeps_applied_by (suc levels) way.Derived t x y =
+    keeps_turn (layer (λ verb. applied_by levels (way_of verb) verb) t x y)
+    (keeps_layer_by (λ verb. applied_by levels (way_of verb) verb) (λ verb a b. keeps_applied_by levels (way_of verb) verb a b) (reference_in t) t x y)
+
 pub keeps_applied : (levels : ℕ) (verb : Term) (x : Option Noun) (y : Noun) → Keeps (applied levels verb x y)
-unfolding applied
-keeps_applied zero (term.Verb verb) x y s = omega arith
-keeps_applied (suc levels) (term.Verb verb) x y s = omega arith
-keeps_applied zero (term.Noun v) x y s = omega arith
-keeps_applied (suc levels) (term.Noun v) x y s = omega arith
-keeps_applied zero (term.Ranks l) x y s = omega arith
-keeps_applied (suc levels) (term.Ranks l) x y s = omega arith
-keeps_applied zero (term.Adverb w) x y s = omega arith
-keeps_applied (suc levels) (term.Adverb w) x y s = omega arith
-keeps_applied zero (term.Conj w) x y s = omega arith
-keeps_applied (suc levels) (term.Conj w) x y s = omega arith
-keeps_applied zero (term.Name name) x y s = keeps_turn (fails {A = Noun} Stack) (keeps_return {A = Noun} (Err Stack)) s
-keeps_applied (suc levels) (term.Name name) x y s =
-    keeps_turn (referred name then (λ verb. applied levels verb x y))
-    (keeps_then (referred name) (λ verb. applied levels verb x y) (keeps_sought_in name.place name.name) (λ verb. keeps_applied levels verb x y)) s
-keeps_applied zero other x y s = omega arith
-keeps_applied (suc levels) other x y s = omega arith
+keeps_applied levels verb x y = keeps_applied_by levels (way_of verb) verb x y
 
 keeps_assigned : (name : List ℕ) (o : Option Term) (value : Part) (rest : List Part) → Keeps (assigned name o value rest)
 keeps_assigned name (Some stands) value rest = keeps_then (written name stands) (λ reply. gives (value ∷ rest)) (keeps_written name stands) (λ reply. keeps_return (Ok (value ∷ rest)))
 keeps_assigned name None value rest = keeps_return {A = List Part} (Err Syntax)
 
+keeps_all_written : (names : List (List ℕ)) (values : List Term) (after : List Part) → Keeps (all_written names values after)
+keeps_all_written [] values after = keeps_return (Ok after)
+keeps_all_written (name ∷ names) [] after = keeps_return (Ok after)
+keeps_all_written (name ∷ names) (value ∷ values) after = keeps_then (written name value) (λ reply. all_written names values after) (keeps_written name value) (λ reply. keeps_all_written names values after)
+
 pub keeps_done : (levels : ℕ) (deed : Deed) → Keeps (done levels deed)
-keeps_done levels (Apply verb x y around) = keeps_then (applied levels verb x y) (λ value. gives (filled around value)) (keeps_applied levels verb x y) (λ value. keeps_return (Ok (filled around value)))
+keeps_done levels (Apply verb x y around) = keeps_then (applied levels verb x y) (λ value. gives (filled around (part.Noun value))) (keeps_applied levels verb x y) (λ value. keeps_return (Ok (filled around (part.Noun value))))
+keeps_done levels (Make making around) = keeps_then (answers (made_of making)) (λ verb. gives (filled around (part.Verb verb true))) (keeps_return (made_of making)) (λ verb. keeps_return (Ok (filled around (part.Verb verb true))))
 keeps_done levels (Assign name value rest) = keeps_assigned name (term_of value) value rest
+keeps_done levels (Spread target value rest) = keeps_then (answers (spread target value)) (λ share. all_written share.0 share.1 (value ∷ rest)) (keeps_return (spread target value)) (λ share. keeps_all_written share.0 share.1 (value ∷ rest))
 keeps_done levels (Leave value rest) = keeps_return (Ok (value ∷ rest))
 keeps_done levels (Refuse fault) = keeps_return {A = List Part} (Err fault)
 
-falls_if : (b : Bool) (p : Action (List Part)) → Keeps p → (s : State) → AllEnd (Fewer s.left) ((if b then with_turn p else fails Nonce) s)
-falls_if true p k s = falls_turn p k s
-falls_if false p k s = tt
-
 pub falls_acted : (levels row : ℕ) (parts : List Part) (s : State) → AllEnd (Fewer s.left) (acted levels row parts s)
 unfolding acted
-falls_acted levels row parts s = falls_if (is_built row) (done levels (deed_of row parts)) (keeps_done levels (deed_of row parts)) s
+falls_acted levels row parts s = falls_turn (done levels (deed_of row parts)) (keeps_done levels (deed_of row parts)) s
 
 keeps_name : (b : Bool) (name : List ℕ) (parts : List Part) → Keeps (if b then gives (part.Target (plain_reference name) ∷ parts) else moved_value name parts)
 keeps_name true name parts = keeps_return (Ok (part.Target (plain_reference name) ∷ parts))
@@ -158,69 +175,79 @@ on_time p s t h =
     let more : t.left + 1 ≡ suc t.left = omega arith in
     ap (with_turn p) h ∙ ap (λ n. turn_of n p (with_left n t)) more
 
-late_if : (b : Bool) (p : Action (List Part)) {B : Type 0} (f : List Part → Action B) (s : State) → s.left ≡ 0
-    → ((if b then with_turn p else fails Nonce) then f) s ≡ fails (if b then TimeLimit else Nonce) s
-unfolding ◌then◌
-late_if true p f s h = ap (λ rest. rest >>= going_on f) (late_turn p s h)
-late_if false p f s h = refl
-
 -- a row that acts when no turn is left
-pub late_row : {B : Type 0} (levels row : ℕ) (parts : List Part) (f : List Part → Action B) (s : State) → s.left ≡ 0 → (acted levels row parts then f) s ≡ fails (late row) s
-unfolding acted
-late_row levels row parts f s h = late_if (is_built row) (done levels (deed_of row parts)) f s h
+pub late_row : {B : Type 0} (levels row : ℕ) (parts : List Part) (f : List Part → Action B) (s : State) → s.left ≡ 0 → (acted levels row parts then f) s ≡ fails TimeLimit s
+unfolding acted ◌then◌
+late_row levels row parts f s h = ap (λ rest. rest >>= going_on f) (late_turn (done levels (deed_of row parts)) s h)
 
--- an application, case by case
-pub applies_primitive : (levels : ℕ) (verb : Primitive) (x : Option Noun) (y : Noun) (s : State) → applied levels (term.Verb verb) x y s ≡ answers (primitive verb x y) s
-unfolding applied
-applies_primitive zero verb x y s = refl
-applies_primitive (suc levels) verb x y s = refl
+-- an application, by how the term is applied
+applies_primitive_by : (levels : ℕ) (verb : Primitive) (t : Term) (x : Option Noun) (y : Noun) (s : State) → applied_by levels (way.Primitive verb) t x y s ≡ answers (primitive verb x y) s
+unfolding applied_by
+applies_primitive_by zero verb t x y s = refl
+applies_primitive_by (suc levels) verb t x y s = refl
 
--- a term that isn't applied
-pub applies_refused : (levels : ℕ) (t : Term) (why : Fault) (x : Option Noun) (y : Noun) (s : State) → refusal t ≡ Some why → applied levels t x y s ≡ fails why s
-unfolding applied
-applies_refused zero (term.Verb verb) why x y s h = cc
-applies_refused (suc levels) (term.Verb verb) why x y s h = cc
-applies_refused zero (term.Name name) why x y s h = cc
-applies_refused (suc levels) (term.Name name) why x y s h = cc
-applies_refused zero (term.Noun v) why x y s h = cc
-applies_refused (suc levels) (term.Noun v) why x y s h = cc
-applies_refused zero (term.Ranks l) why x y s h = cc
-applies_refused (suc levels) (term.Ranks l) why x y s h = cc
-applies_refused zero (term.Adverb w) why x y s h = cc
-applies_refused (suc levels) (term.Adverb w) why x y s h = cc
-applies_refused zero (term.Conj w) why x y s h = cc
-applies_refused (suc levels) (term.Conj w) why x y s h = cc
-applies_refused zero other why x y s h = cc
-applies_refused (suc levels) other why x y s h = cc
+pub applies_primitive : (levels : ℕ) (t : Term) (verb : Primitive) (x : Option Noun) (y : Noun) (s : State) → way_of t ≡ way.Primitive verb → applied levels t x y s ≡ answers (primitive verb x y) s
+applies_primitive levels t verb x y s h = ap (λ w. applied_by levels w t x y s) h ∙ applies_primitive_by levels verb t x y s
 
--- a reference without a turn, without a level, and with both
-pub name_is_late : (levels : ℕ) (name : Locative) (x : Option Noun) (y : Noun) (s : State) → s.left ≡ 0 → applied levels (term.Name name) x y s ≡ fails TimeLimit s
-unfolding applied
-name_is_late zero name x y s h = late_turn (fails Stack) s h
-name_is_late (suc levels) name x y s h = late_turn (referred name then (λ verb. applied levels verb x y)) s h
+applies_constant_by : (levels : ℕ) (n : ℤ) (t : Term) (x : Option Noun) (y : Noun) (s : State) → applied_by levels (way.Constant n) t x y s ≡ gives (int_atom n) s
+unfolding applied_by
+applies_constant_by zero n t x y s = refl
+applies_constant_by (suc levels) n t x y s = refl
 
-pub name_is_deep : (levels : ℕ) (name : Locative) (x : Option Noun) (y : Noun) (s t : State) → levels ≡ 0 → s ≡ with_left (t.left + 1) t → applied levels (term.Name name) x y s ≡ fails Stack t
-unfolding applied
-name_is_deep zero name x y s t none h = on_time (fails Stack) s t h
-name_is_deep (suc levels) name x y s t none h = cc
+pub applies_constant : (levels : ℕ) (t : Term) (n : ℤ) (x : Option Noun) (y : Noun) (s : State) → way_of t ≡ way.Constant n → applied levels t x y s ≡ gives (int_atom n) s
+applies_constant levels t n x y s h = ap (λ w. applied_by levels w t x y s) h ∙ applies_constant_by levels n t x y s
 
-pub name_is_sought : (levels : ℕ) (name : Locative) (x : Option Noun) (y : Noun) (s t : State) → levels ≢ 0 → s ≡ with_left (t.left + 1) t
-    → applied levels (term.Name name) x y s ≡ (referred name then (λ verb. applied (levels - 1) verb x y)) t
-unfolding applied
-name_is_sought zero name x y s t some h = absurd (some refl)
-name_is_sought (suc levels) name x y s t some h =
+applies_refused_by : (levels : ℕ) (why : Fault) (t : Term) (x : Option Noun) (y : Noun) (s : State) → applied_by levels (way.Refused why) t x y s ≡ fails why s
+unfolding applied_by
+applies_refused_by zero why t x y s = refl
+applies_refused_by (suc levels) why t x y s = refl
+
+pub applies_refused : (levels : ℕ) (t : Term) (why : Fault) (x : Option Noun) (y : Noun) (s : State) → way_of t ≡ way.Refused why → applied levels t x y s ≡ fails why s
+applies_refused levels t why x y s h = ap (λ w. applied_by levels w t x y s) h ∙ applies_refused_by levels why t x y s
+
+-- with a turn and a level: without a turn, without a level, and with both
+late_by : (levels : ℕ) (t : Term) (x : Option Noun) (y : Noun) (s : State) → s.left ≡ 0 → applied_by levels way.Derived t x y s ≡ fails TimeLimit s
+unfolding applied_by
+late_by zero t x y s h = late_turn (fails Stack) s h
+late_by (suc levels) t x y s h = late_turn (layer (λ verb. applied_by levels (way_of verb) verb) t x y) s h
+
+pub derived_is_late : (levels : ℕ) (t : Term) (x : Option Noun) (y : Noun) (s : State) → way_of t ≡ way.Derived → s.left ≡ 0 → applied levels t x y s ≡ fails TimeLimit s
+derived_is_late levels t x y s is h = ap (λ w. applied_by levels w t x y s) is ∙ late_by levels t x y s h
+
+deep_by : (levels : ℕ) (u : Term) (x : Option Noun) (y : Noun) (s t : State) → levels ≡ 0 → s ≡ with_left (t.left + 1) t → applied_by levels way.Derived u x y s ≡ fails Stack t
+unfolding applied_by
+deep_by zero u x y s t none h = on_time (fails Stack) s t h
+deep_by (suc levels) u x y s t none h = cc
+
+pub derived_is_deep : (levels : ℕ) (u : Term) (x : Option Noun) (y : Noun) (s t : State) → way_of u ≡ way.Derived → levels ≡ 0 → s ≡ with_left (t.left + 1) t → applied levels u x y s ≡ fails Stack t
+derived_is_deep levels u x y s t is none h = ap (λ w. applied_by levels w u x y s) is ∙ deep_by levels u x y s t none h
+
+down_by : (levels : ℕ) (u : Term) (x : Option Noun) (y : Noun) (s t : State) → levels ≢ 0 → s ≡ with_left (t.left + 1) t
+    → applied_by levels way.Derived u x y s ≡ layer (applied (levels - 1)) u x y t
+unfolding applied_by
+down_by zero u x y s t some h = absurd (some refl)
+down_by (suc levels) u x y s t some h =
     let down : levels ≡ suc levels - 1 = omega arith in
-    on_time (referred name then (λ verb. applied levels verb x y)) s t h ∙ ap (λ n. (referred name then (λ verb. applied n verb x y)) t) down
+    on_time (layer (λ verb. applied_by levels (way_of verb) verb) u x y) s t h ∙ ap (λ n. layer (applied n) u x y t) down
 
--- a row, case by case
-pub acted_unbuilt : (levels row : ℕ) (parts : List Part) (s : State) → is_built row ≡ false → acted levels row parts s ≡ fails Nonce s
-unfolding acted
-acted_unbuilt levels row parts s unbuilt = ap (λ b. (if b then with_turn (done levels (deed_of row parts)) else fails Nonce) s) unbuilt
+pub derived_goes_down : (levels : ℕ) (u : Term) (x : Option Noun) (y : Noun) (s t : State) → way_of u ≡ way.Derived → levels ≢ 0 → s ≡ with_left (t.left + 1) t
+    → applied levels u x y s ≡ layer (applied (levels - 1)) u x y t
+derived_goes_down levels u x y s t is some h = ap (λ w. applied_by levels w u x y s) is ∙ down_by levels u x y s t some h
 
-pub acted_late : (levels row : ℕ) (parts : List Part) (s : State) → is_built row ≡ true → s.left ≡ 0 → acted levels row parts s ≡ fails TimeLimit s
-unfolding acted
-acted_late levels row parts s built h = ap (λ b. (if b then with_turn (done levels (deed_of row parts)) else fails Nonce) s) built ∙ late_turn (done levels (deed_of row parts)) s h
+-- what is applied one level further down
+pub goes_to_reference : (meant : Term → Option Noun → Noun → Action Noun) (t : Term) (name : Locative) (x : Option Noun) (y : Noun) (s : State) → Some name ≡ reference_in t
+    → layer meant t x y s ≡ (referred name then (λ verb. meant verb x y)) s
+goes_to_reference meant t name x y s h = sym (ap (λ o. layer_by meant o t x y s) h)
 
-pub acted_on_time : (levels row : ℕ) (parts : List Part) (s t : State) → is_built row ≡ true → s ≡ with_left (t.left + 1) t → acted levels row parts s ≡ done levels (deed_of row parts) t
+pub goes_to_train : (meant : Term → Option Noun → Noun → Action Noun) (t : Term) (o : Option Derivation) (x : Option Noun) (y : Noun) (s : State) → None ≡ reference_in t → o ≡ train t x y
+    → layer meant t x y s ≡ ran_if meant o s
+goes_to_train meant t o x y s h is = sym (ap (λ d. ran_if meant d s) is ∙ ap (λ r. layer_by meant r t x y s) h)
+
+-- a row, without a turn and with one
+pub acted_late : (levels row : ℕ) (parts : List Part) (s : State) → s.left ≡ 0 → acted levels row parts s ≡ fails TimeLimit s
 unfolding acted
-acted_on_time levels row parts s t built h = ap (λ b. (if b then with_turn (done levels (deed_of row parts)) else fails Nonce) s) built ∙ on_time (done levels (deed_of row parts)) s t h
+acted_late levels row parts s h = late_turn (done levels (deed_of row parts)) s h
+
+pub acted_on_time : (levels row : ℕ) (parts : List Part) (s t : State) → s ≡ with_left (t.left + 1) t → acted levels row parts s ≡ done levels (deed_of row parts) t
+unfolding acted
+acted_on_time levels row parts s t h = on_time (done levels (deed_of row parts)) s t h

@@ -1,6 +1,7 @@
 -- The application of a verb to its arguments (J Dictionary, "Verbs"; NuVoc, "Nouns, verbs and names": a verb's name is
 -- a reference, which is looked up each time it is run).
-use Rattle.std.specs.Prelude.{◌≡◌, ℕ, zero, suc, List, Option, Some, None, Result, Ok, Err}
+use Rattle.std.specs.Prelude.{ℕ, zero, suc, List, Option, Some, None, Result, Ok, Err}
+use Rattle.jdata.specs.Noun.{int_atom}
 use Rattle.jdata.specs.declared.noun.Noun.{Noun}
 use Rattle.jdata.specs.declared.fault.Fault.{Fault}
 use Rattle.jdata.specs.declared.fault.Fault.TheVariants.{Domain, Value, Nonce, Stack}
@@ -11,8 +12,10 @@ use Rattle.juses.specs.declared.uses.Reply.{Reply}
 use Rattle.juses.specs.declared.uses.Reply.TheVariants.{Named}
 use Rattle.jeval.specs.declared.applying.Way.{Way}
 use Rattle.jeval.specs.declared.applying.Way.TheVariants as way
-use Rattle.jeval.specs.Action.{Action, fails, answers, ◌then◌, with_turn}
+use Rattle.juses.specs.Program.{Return, Ask}
+use Rattle.jeval.specs.Action.{Action, gives, fails, answers, ◌then◌, with_turn}
 use Rattle.jeval.specs.Activity.{read}
+use Rattle.jplan.specs.Plans.{Derivation, train}
 use Rattle.jeval.specs.Verbs.{primitive}
 
 -- how many applications of verbs that aren't primitive may be nested
@@ -40,31 +43,50 @@ sought_in (Some place) name = fails Nonce
 abbrev pub referred : Locative → Action Term
 referred reference = sought_in reference.place reference.name
 
--- a verb on its arguments, with so many levels left. A primitive is applied at once. A reference takes a turn and a
--- level, and what it stands for is applied in its place.
--- A constant verb, a modifier with its operands and a train aren't built.
-unfoldable pub applied : ℕ → Term → Option Noun → Noun → Action Noun
-applied levels (term.Verb verb) x y = answers (primitive verb x y)
-applied levels (term.Noun v) x y = fails Domain
-applied levels (term.Ranks numbers) x y = fails Domain
-applied levels (term.Adverb word) x y = fails Domain
-applied levels (term.Conj word) x y = fails Domain
-applied zero (term.Name name) x y = with_turn (fails Stack)
-applied (suc levels) (term.Name name) x y = with_turn (referred name then (λ verb. applied levels verb x y))
-applied levels other x y = fails Nonce
+-- how a term is applied: a reference, a train and a modifier with its operands are derived
+abbrev pub way_of : Term → Way
+way_of (term.Verb verb) = way.Primitive verb
+way_of (term.Const n) = way.Constant n
+way_of (term.Noun v) = way.Refused Domain
+way_of (term.Ranks numbers) = way.Refused Domain
+way_of (term.Adverb word) = way.Refused Domain
+way_of (term.Conj word) = way.Refused Domain
+way_of other = way.Derived
 
--- why a term isn't applied
-abbrev pub refusal : Term → Option Fault
-refusal (term.Noun v) = Some Domain
-refusal (term.Ranks numbers) = Some Domain
-refusal (term.Adverb word) = Some Domain
-refusal (term.Conj word) = Some Domain
-refusal (term.Verb verb) = None
-refusal (term.Name name) = None
-refusal other = Some Nonce
+-- how a verb is applied one level further down
+abbrev pub Part : Type 0
+Part = Term → Option Noun → Noun → Action Noun
 
--- how a term is applied
-abbrev pub IsWay : Term → Way → Type 0
-IsWay t (way.Primitive verb) = t ≡ term.Verb verb
-IsWay t (way.Reference name) = t ≡ term.Name name.now
-IsWay t (way.Refused fault) = refusal t ≡ Some fault
+-- the applications that a derivation asks for, in their order, up to the first fault
+abbrev pub ran : Part → Derivation → Action Noun
+ran part (Return value) = gives value
+ran part (Ask a next) = part a.verb a.x a.y then (λ value. ran part (next value))
+
+-- an application isn't built where there is no derivation: that of a modifier with its operands
+abbrev pub ran_if : Part → Option Derivation → Action Noun
+ran_if part (Some derivation) = ran part derivation
+ran_if part None = fails Nonce
+
+abbrev pub reference_in : Term → Option Locative
+reference_in (term.Name name) = Some name
+reference_in other = None
+
+-- a reference is what it stands for; a train does what it is made of
+abbrev pub layer_by : Part → Option Locative → Term → Option Noun → Noun → Action Noun
+layer_by part (Some name) t x y = referred name then (λ verb. part verb x y)
+layer_by part None t x y = ran_if part (train t x y)
+
+abbrev pub layer : Part → Term → Option Noun → Noun → Action Noun
+layer part t x y = layer_by part (reference_in t) t x y
+
+-- a verb on its arguments, with so many levels left. A primitive or constant verb is applied at once; else the
+-- application takes a turn and a level.
+unfoldable pub applied_by : ℕ → Way → Term → Option Noun → Noun → Action Noun
+applied_by levels (way.Primitive verb) t x y = answers (primitive verb x y)
+applied_by levels (way.Constant n) t x y = gives (int_atom n)
+applied_by levels (way.Refused fault) t x y = fails fault
+applied_by zero way.Derived t x y = with_turn (fails Stack)
+applied_by (suc levels) way.Derived t x y = with_turn (layer (λ verb. applied_by levels (way_of verb) verb) t x y)
+
+abbrev pub applied : ℕ → Part
+applied levels verb x y = applied_by levels (way_of verb) verb x y

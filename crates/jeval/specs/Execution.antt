@@ -1,7 +1,7 @@
 -- The execution of a sentence, from right to left (J Dictionary, "Parsing and Execution").
-use Rattle.std.specs.Prelude.{ℕ, zero, suc, ◌==◌, Bool, true, false, if◌then◌else◌, List, [], ◌∷◌, Option, Some, None}
+use Rattle.std.specs.Prelude.{ℕ, zero, suc, ◌==◌, Bool, true, false, if◌then◌else◌, List, [], ◌∷◌, Option, Some, None, Result}
 use Rattle.jdata.specs.declared.fault.Fault.{Fault}
-use Rattle.jdata.specs.declared.fault.Fault.TheVariants.{Syntax, Nonce, TimeLimit}
+use Rattle.jdata.specs.declared.fault.Fault.TheVariants.{Syntax, TimeLimit}
 use Rattle.jterm.specs.declared.term.Locative.{Locative}
 use Rattle.jterm.specs.declared.term.Term.{Term}
 use Rattle.jterm.specs.declared.term.Term.TheVariants as term
@@ -13,12 +13,14 @@ use Rattle.jterm.specs.declared.part.Part.TheVariants as part
 use Rattle.jeval.specs.declared.queue.Queued.{Queued}
 use Rattle.jeval.specs.declared.queue.Queued.TheVariants.{Ready, Named}
 use Rattle.jeval.specs.declared.rows.Deed.{Deed}
-use Rattle.jeval.specs.declared.rows.Deed.TheVariants.{Apply, Assign, Leave, Refuse}
-use Rattle.jeval.specs.Action.{Action, Rest, gives, fails, going_on, ◌then◌, with_turn}
+use Rattle.jeval.specs.declared.rows.Deed.TheVariants.{Apply, Make, Assign, Spread, Leave, Refuse}
+use Rattle.jeval.specs.Action.{Action, Rest, gives, fails, answers, going_on, ◌then◌, with_turn}
 use Rattle.jeval.specs.Activity.{read, written}
 use Rattle.jeval.specs.Applying.{applied}
 use Rattle.jparse.specs.Parsing.{row_at, top_of, is_whole, awaits_target}
-use Rattle.jeval.specs.Rows.{filled, is_built, deed_of}
+use Rattle.jeval.specs.Makings.{term_of, made_of}
+use Rattle.jeval.specs.Targets.{spread}
+use Rattle.jeval.specs.Rows.{filled, deed_of}
 
 abbrev pub plain_reference : List ℕ → Locative
 plain_reference name = record { name = name; place = None }
@@ -48,33 +50,31 @@ abbrev pub moved_in : Queued → List Part → Action (List Part)
 moved_in (Ready part) parts = gives (part ∷ parts)
 moved_in (Named name) parts = moved_name name parts
 
--- what a name can stand for: the value of a part
-abbrev pub term_of : Part → Option Term
-term_of (part.Noun value) = Some (term.Noun value)
-term_of (part.Ranks numbers) = Some (term.Ranks numbers)
-term_of (part.Verb verb found) = Some verb
-term_of (part.Adverb word) = Some (term.Adverb word)
-term_of (part.Conj word) = Some (term.Conj word)
-term_of other = None
-
 abbrev pub assigned : List ℕ → Option Term → Part → List Part → Action (List Part)
 assigned name (Some stands) value rest = written name stands then (λ reply. gives (value ∷ rest))
 assigned name None value rest = fails Syntax
 
+-- the names get their values one after another, until there are no more of either
+abbrev pub all_written : List (List ℕ) → List Term → List Part → Action (List Part)
+all_written [] values after = gives after
+all_written (name ∷ names) [] after = gives after
+all_written (name ∷ names) (value ∷ values) after = written name value then (λ reply. all_written names values after)
+
+abbrev pub all_assigned : Result (List (List ℕ) × List Term) Fault → List Part → Action (List Part)
+all_assigned shares after = answers shares then (λ share. all_written share.0 share.1 after)
+
 -- what a row asks for, with so many levels left
 abbrev pub done : ℕ → Deed → Action (List Part)
-done levels (Apply verb x y around) = applied levels verb x y then (λ value. gives (filled around value))
+done levels (Apply verb x y around) = applied levels verb x y then (λ value. gives (filled around (part.Noun value)))
+done levels (Make making around) = answers (made_of making) then (λ verb. gives (filled around (part.Verb verb true)))
 done levels (Assign name value rest) = assigned name (term_of value) value rest
+done levels (Spread target value rest) = all_assigned (spread target value) (value ∷ rest)
 done levels (Leave value rest) = gives (value ∷ rest)
 done levels (Refuse fault) = fails fault
 
--- a row acts, with a turn; one that isn't built takes none
+-- a row acts, with a turn
 unfoldable pub acted : ℕ → ℕ → List Part → Action (List Part)
-acted levels row parts = if is_built row then with_turn (done levels (deed_of row parts)) else fails Nonce
-
--- the fault of a row for which no turn is left
-abbrev pub late : ℕ → Fault
-late row = if is_built row then TimeLimit else Nonce
+acted levels row parts = with_turn (done levels (deed_of row parts))
 
 -- what is left at the end, and whether the last act was an assignment
 abbrev pub Ending : Type 0
@@ -103,7 +103,7 @@ is_assignment row = row == 7
 
 -- the sentence from here on, with at most so many rows. Each row that acts takes a turn.
 unfoldable pub executed_within : ℕ → ℕ → List Queued → List Part → Bool → Action Ending
-executed_within levels zero = read_on (λ row queue parts. fails (late row))
+executed_within levels zero = read_on (λ row queue parts. fails TimeLimit)
 executed_within levels (suc rows) = read_on (λ row queue parts. acted levels row parts then (λ more. executed_within levels rows queue more (is_assignment row)))
 
 -- the sentence from here on: as many rows may act as there are turns

@@ -3,8 +3,11 @@ pub mod Activity
 pub mod Made
 pub mod Verbs
 pub mod Applying
+pub mod Makings
+pub mod Targets
 pub mod Rows
 pub mod Constants
+pub mod Operators
 pub mod Queue
 pub mod Execution
 pub mod Showing

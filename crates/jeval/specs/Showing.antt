@@ -1,5 +1,5 @@
 -- What a sentence shows (J Dictionary, "Display"; the two lines of a fault are this language's own).
-use Rattle.std.specs.Prelude.{ℕ, Bool, true, false, if◌then◌else◌, List, [], ◌∷◌, ◌++◌, codes, Option, Some, None, Result, Ok, Err}
+use Rattle.std.specs.Prelude.{ℕ, true, false, if◌then◌else◌, List, [], ◌∷◌, ◌++◌, codes, Option, Some, None, Result, Ok, Err}
 use Rattle.jdata.specs.Faults.{text_of}
 use Rattle.jdata.specs.declared.fault.Fault.{Fault}
 use Rattle.jdata.specs.declared.fault.Fault.TheVariants as fault
@@ -15,14 +15,18 @@ use Rattle.jterm.specs.declared.part.Part.TheVariants as part
 abbrev pub rows : Noun → Result (Option (List ℕ)) Fault
 rows v = Ok (Some (display_of v))
 
-abbrev pub verb_row : List ℕ
-verb_row = codes "verb" ++ line_feed ∷ []
+abbrev pub word_row : List ℕ → List ℕ
+word_row word = word ++ line_feed ∷ []
 
--- what a value shows where it is the whole result; a reference that found no value when it was moved is a value error
+-- what a value shows where it is the whole result; a reference that found no value when it was moved is a value error,
+-- and a number word with `_` isn't shown
 abbrev pub shown_part : Part → Result (Option (List ℕ)) Fault
 shown_part (part.Noun v) = rows v
-shown_part (part.Verb verb true) = Ok (Some verb_row)
+shown_part (part.Verb verb true) = Ok (Some (word_row (codes "verb")))
 shown_part (part.Verb verb false) = Err fault.Value
+shown_part (part.Ranks numbers) = Err fault.Nonce
+shown_part (part.Adverb word) = Ok (Some (word_row (codes "adverb")))
+shown_part (part.Conj word) = Ok (Some (word_row (codes "conjunction")))
 shown_part other = Ok None
 
 -- the value behind the mark

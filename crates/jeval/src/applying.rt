@@ -1,13 +1,16 @@
 //! The application of verbs.
-ghost use Rattle.std.specs.Prelude.{◌≡◌};
+ghost use Rattle.std.specs.Prelude.{◌≡◌, option_map};
 ghost use Rattle.jeval.specs.Applying as applying;
+ghost use Rattle.jplan.specs.Plans as plans;
 ghost use Rattle.juses.specs.Events.{RunsWhole};
 ghost use Rattle.jeval.specs.Made.{Makes, settled};
 
 use crate::activity::Activity;
-use crate::end::EvalEnd;
+use crate::end::{EvalEnd, NO_MEMORY};
 use crate::verbs::primitive;
-use jdata::{Fault, Name, Primitive};
+use jarray::Array;
+use jdata::{Fault, Name, NoMemory, Primitive};
+use jplan::{Plan, train};
 use jterm::{Datum, Locative, Term};
 use juses::{Reply, Uses};
 
@@ -15,28 +18,35 @@ use juses::{Reply, Uses};
 pub(crate) const MOST_LEVELS: u64 = 200;
 
 /// How a term is applied.
-enum Way<'a> {
+#[derive(Clone, Copy)]
+enum Way {
     Primitive(Primitive),
-    Reference(&'a Locative),
+    Constant(i64),
+    /// With a turn and a level: a reference, a train, or a modifier with its operands.
+    Derived,
     Refused(Fault),
 }
 
-// A constant verb, a modifier with its operands and a train aren't built.
-fn way_of(verb: &Term) -> Way<'_>
-    ensures { applying.IsWay verb.now result }
+fn way_of(verb: &Term) -> Way
+    ensures { result ≡ applying.way_of verb.now }
 {
     match verb {
         Term::Verb(verb) => Way::Primitive(*verb),
-        Term::Name(reference) => Way::Reference(reference),
+        Term::Const(number) => Way::Constant(*number),
         Term::Noun(_) => Way::Refused(Fault::Domain),
         Term::Ranks(_) => Way::Refused(Fault::Domain),
         Term::Adverb(_) => Way::Refused(Fault::Domain),
         Term::Conj(_) => Way::Refused(Fault::Domain),
-        Term::Const(_) => Way::Refused(Fault::Nonce),
-        Term::With1 { .. } => Way::Refused(Fault::Nonce),
-        Term::With2 { .. } => Way::Refused(Fault::Nonce),
-        Term::Hook { .. } => Way::Refused(Fault::Nonce),
-        Term::Fork { .. } => Way::Refused(Fault::Nonce),
+        _ => Way::Derived,
+    }
+}
+
+fn reference_in(verb: &Term) -> Option<&Locative>
+    ensures { option_map (λ reference. reference.now) result ≡ applying.reference_in verb.now }
+{
+    match verb {
+        Term::Name(reference) => Some(reference),
+        _ => None,
     }
 }
 
@@ -76,7 +86,50 @@ impl<U: Uses> Activity<U> {
         }
     }
 
+    // Applies what a plan asks for, with so many levels for each.
+    #[cycle(apply)]
+    fn follow(&mut self, levels: u64, plan: Plan<'_>) -> Result<Datum, EvalEnd>
+        ensures { Makes U.leads U.refuses self.old self.new (applying.ran (applying.applied levels) (plans.rest plan.entry)) result }
+    {
+        let mut at = plan;
+        loop {
+            match at {
+                Plan::Done(value) => return Ok(value),
+                Plan::Apply { verb, x, y, after } => {
+                    let value = self.apply(levels, verb, x, y)?;
+                    at = after.resume(value);
+                }
+            }
+        }
+    }
+
+    // What a reference stands for, or what a train is made of, with so many levels for it.
+    #[cycle(apply)]
+    fn descend(
+        &mut self,
+        levels: u64,
+        verb: &Term,
+        x: Option<Datum>,
+        y: Datum,
+    ) -> Result<Datum, EvalEnd>
+        ensures { Makes U.leads U.refuses self.old self.new (applying.layer (applying.applied levels) verb.now x y) result }
+    {
+        match reference_in(verb) {
+            Some(reference) => {
+                let verb = self.referred(reference)?;
+                self.apply(levels, &verb, x, y)
+            }
+            None => match train(self.alloc, &self.room, verb, x, y) {
+                Ok(Some(plan)) => self.follow(levels, plan),
+                // a modifier with its operands isn't built
+                Ok(None) => Err(EvalEnd::Fault(Fault::Nonce)),
+                Err(NoMemory) => Err(NO_MEMORY),
+            },
+        }
+    }
+
     /// A verb on its arguments, with so many levels left for what it nests.
+    #[cycle(apply)]
     pub(crate) fn apply(
         &mut self,
         levels: u64,
@@ -88,16 +141,16 @@ impl<U: Uses> Activity<U> {
     {
         match way_of(verb) {
             Way::Primitive(verb) => primitive(self.alloc, &mut self.room, verb, x, y),
+            Way::Constant(number) => Ok(Datum::of(Array::atom(number))),
             Way::Refused(fault) => Err(EvalEnd::Fault(fault)),
-            Way::Reference(reference) => {
+            Way::Derived => {
                 if !self.state.take_turn() {
                     return Err(EvalEnd::Fault(Fault::TimeLimit));
                 }
                 if levels == 0 {
                     return Err(EvalEnd::Fault(Fault::Stack));
                 }
-                let verb = self.referred(reference)?;
-                self.apply(levels - 1, &verb, x, y)
+                self.descend(levels - 1, verb, x, y)
             }
         }
     }

@@ -11,7 +11,8 @@ use jterm::Datum;
 use jwords::is_blank;
 use std::alloc::Global;
 
-fn number(run: &[u8]) -> Option<i64>
+/// The number that a run spells.
+pub(crate) fn number(run: &[u8]) -> Option<i64>
     ensures { result ≡ constants.number run.now }
 {
     match read(run) {
@@ -21,14 +22,27 @@ fn number(run: &[u8]) -> Option<i64>
     }
 }
 
+// A number of a word, or nothing for an underscore, which is no limit.
+fn limit(run: &[u8]) -> Option<Option<i64>>
+    ensures { result ≡ constants.limit run.now }
+{
+    if run == b"_".as_slice() {
+        return Some(None);
+    }
+    match number(run) {
+        Some(number) => Some(Some(number)),
+        None => None,
+    }
+}
+
 // The numbers before, and that of a run behind them; none where the run is no number.
-fn with_run(mut numbers: Vec<i64>, run: &[u8]) -> Result<Option<Vec<i64>>, NoMemory>
+fn with_run(mut numbers: Vec<Option<i64>>, run: &[u8]) -> Result<Option<Vec<Option<i64>>>, NoMemory>
     ensures { IfOk result (λ given. option_map (λ ns. ns.items) given ≡ constants.joined (Some numbers.items) (constants.numbers_of run.now)) }
 {
     if run.is_empty() {
         return Ok(Some(numbers));
     }
-    let Some(number) = number(run) else {
+    let Some(number) = limit(run) else {
         return Ok(None);
     };
     match numbers.push(number) {
@@ -37,8 +51,8 @@ fn with_run(mut numbers: Vec<i64>, run: &[u8]) -> Result<Option<Vec<i64>>, NoMem
     }
 }
 
-// The numbers of a word, where each of its runs is one.
-fn numbers(alloc: Global, word: &[u8]) -> Result<Option<Vec<i64>>, NoMemory>
+/// The numbers of a word, where each of its runs is one; nothing for each that is no limit.
+pub(crate) fn numbers(alloc: Global, word: &[u8]) -> Result<Option<Vec<Option<i64>>>, NoMemory>
     ensures { IfOk result (λ numbers. option_map (λ ns. ns.items) numbers ≡ constants.numbers word.now) }
 {
     let mut numbers = Vec::new(alloc);
@@ -56,6 +70,25 @@ fn numbers(alloc: Global, word: &[u8]) -> Result<Option<Vec<i64>>, NoMemory>
     with_run(numbers, &word[start..])
 }
 
+/// The integers, where each of the numbers is one.
+pub(crate) fn all_integers(
+    alloc: Global,
+    numbers: &[Option<i64>],
+) -> Result<Option<Vec<i64>>, NoMemory>
+    ensures { IfOk result (λ integers. option_map (λ ns. ns.items) integers ≡ constants.all_integers numbers.now) }
+{
+    let mut integers = Vec::new(alloc);
+    for number in numbers {
+        let Some(integer) = number else {
+            return Ok(None);
+        };
+        if integers.push(*integer).is_err() {
+            return Err(NoMemory);
+        }
+    }
+    Ok(Some(integers))
+}
+
 fn array(shape: Vec<u64>, items: Leaves) -> Option<Datum>
     ensures { result ≡ constants.if_array (checked (noun_of shape.items items)) }
 {
@@ -65,7 +98,8 @@ fn array(shape: Vec<u64>, items: Leaves) -> Option<Datum>
     }
 }
 
-fn integers(alloc: Global, numbers: Vec<i64>) -> Result<Option<Datum>, NoMemory>
+/// The noun of integers: one is an atom, several are a list.
+pub(crate) fn integers(alloc: Global, numbers: Vec<i64>) -> Result<Option<Datum>, NoMemory>
     ensures { IfOk result (λ array. array ≡ constants.integers numbers.items) }
 {
     if let [number] = numbers.as_slice() {
@@ -74,17 +108,6 @@ fn integers(alloc: Global, numbers: Vec<i64>) -> Result<Option<Datum>, NoMemory>
     match Vec::from_slice(alloc, &[numbers.len() as u64]) {
         Ok(shape) => Ok(array(shape, Leaves::Int(IntList::of(numbers)))),
         Err(_) => Err(NoMemory),
-    }
-}
-
-/// The noun of a word of numbers, where each of its runs is a number.
-pub(crate) fn number_noun(alloc: Global, word: &[u8]) -> Result<Option<Datum>, NoMemory>
-    ensures { IfOk result (λ noun. noun ≡ constants.number_noun word.now) }
-{
-    match numbers(alloc, word) {
-        Ok(Some(numbers)) => integers(alloc, numbers),
-        Ok(None) => Ok(None),
-        Err(NoMemory) => Err(NoMemory),
     }
 }
 

@@ -1,19 +1,22 @@
 //! The execution of a sentence: one loop that reads words and does what rows ask for.
-ghost use Rattle.std.specs.Prelude.{◌≡◌, [], false, IfOk};
+ghost use Rattle.std.specs.Prelude.{◌≡◌, ◌⊎◌, ◌∷◌, [], false, MatchOption};
+ghost use Rattle.jeval.specs.Makings.{term_of as stands_for};
 ghost use Rattle.jeval.specs.Execution as execution;
 ghost use Rattle.jeval.specs.Made.{Makes};
+ghost use Rattle.jeval.specs.Targets as targets;
 
 use crate::activity::Activity;
+use crate::building::{made, term_of};
 use crate::end::{EvalEnd, NO_MEMORY};
 use crate::queue::Queued;
-use crate::rows::{Deed, deed_of, is_built};
+use crate::rows::{Deed, deed_of};
 use crate::stack::{Parts, Stack, pushed};
-use jarray::{Array, Room};
+use crate::targets::spread;
+use jarray::Array;
 use jdata::{Fault, Name, NoMemory};
 use jparse::Act;
 use jterm::{Datum, Locative, Part, Term};
 use juses::{Reply, Uses};
-use std::alloc::Global;
 
 fn plain(name: Name) -> Locative
     ensures { result ≡ execution.plain_reference name }
@@ -44,24 +47,19 @@ fn value_of(name: Name, reply: Reply) -> Part
     }
 }
 
-// What a name can stand for, in memory of its own: the value of a part.
-fn term_of(alloc: Global, room: &Room, part: &Part) -> Result<Option<Term>, NoMemory>
-    ensures { IfOk result (λ term. term ≡ execution.term_of part.now) }
-{
-    match part {
-        Part::Noun(value) => Ok(Some(Term::Noun(value.array().tree(alloc, room)?))),
-        Part::Ranks(numbers) => Ok(Some(Term::Ranks(numbers.copy(alloc)?))),
-        Part::Verb { term, .. } => Ok(Some(term.copy(alloc)?)),
-        Part::Adverb(word) => Ok(Some(Term::Adverb(*word))),
-        Part::Conj(word) => Ok(Some(Term::Conj(*word))),
-        _ => Ok(None),
-    }
-}
-
 fn is_assignment(row: u8) -> bool
     ensures { result ≡ execution.is_assignment row }
 {
     row == 7
+}
+
+// The next name and its value, while there are both.
+fn next_share(names: &mut Stack<Name>, values: &mut Stack<Term>) -> Option<(Name, Term)>
+    ensures { MatchOption result ((names.old ≡ []) ⊎ (values.old ≡ [])) (λ share. (names.old ≡ share.0 ∷ names.new) × (values.old ≡ share.1 ∷ values.new)) }
+{
+    let name = names.pop()?;
+    let value = values.pop()?;
+    Some((name, value))
 }
 
 impl<U: Uses> Activity<U> {
@@ -95,7 +93,7 @@ impl<U: Uses> Activity<U> {
 
     // Gives a name what a part stands for, which stays.
     fn assign(&mut self, name: Name, value: Part, rest: Parts) -> Result<Parts, EvalEnd>
-        ensures { Makes U.leads U.refuses self.old self.new (execution.assigned name (execution.term_of value) value rest) result }
+        ensures { Makes U.leads U.refuses self.old self.new (execution.assigned name (stands_for value) value rest) result }
     {
         match term_of(self.alloc, &self.room, &value) {
             Ok(Some(term)) => {
@@ -107,6 +105,34 @@ impl<U: Uses> Activity<U> {
         }
     }
 
+    // Gives the names their values one after another.
+    fn write_all(
+        &mut self,
+        mut names: Stack<Name>,
+        mut values: Stack<Term>,
+        value: Part,
+        rest: Parts,
+    ) -> Result<Parts, EvalEnd>
+        ensures { Makes U.leads U.refuses self.old self.new (execution.all_written names values (value ∷ rest)) result }
+    {
+        let after = match pushed(rest, value) {
+            Ok(after) => after,
+            Err(end) => return Err(end),
+        };
+        while let Some((name, share)) = next_share(&mut names, &mut values) {
+            drop(self.write(name, share)?);
+        }
+        Ok(after)
+    }
+
+    // Gives the names of a quoted target their shares of a part, which stays.
+    fn assign_all(&mut self, target: &Array, value: Part, rest: Parts) -> Result<Parts, EvalEnd>
+        ensures { Makes U.leads U.refuses self.old self.new (execution.all_assigned (targets.spread target.now.noun value) (value ∷ rest)) result }
+    {
+        let (names, values) = spread(self.alloc, &mut self.room, target, &value)?;
+        self.write_all(names, values, value, rest)
+    }
+
     // Does what a row asks for.
     fn does(&mut self, levels: u64, deed: Deed) -> Result<Parts, EvalEnd>
         ensures { Makes U.leads U.refuses self.old self.new (execution.done levels deed) result }
@@ -114,9 +140,18 @@ impl<U: Uses> Activity<U> {
         match deed {
             Deed::Apply { verb, x, y, around } => {
                 let value = self.apply(levels, &verb, x, y)?;
-                around.filled(value)
+                around.filled(Part::Noun(value))
+            }
+            Deed::Make { making, around } => {
+                let term = made(self.alloc, &mut self.room, making)?;
+                around.filled(Part::Verb { term, found: true })
             }
             Deed::Assign { name, value, rest } => self.assign(name, value, rest),
+            Deed::Spread {
+                target,
+                value,
+                rest,
+            } => self.assign_all(target.array(), value, rest),
             Deed::Leave { value, rest } => pushed(rest, value),
             Deed::Refuse(fault) => Err(EvalEnd::Fault(fault)),
         }
@@ -126,13 +161,10 @@ impl<U: Uses> Activity<U> {
     fn act(&mut self, levels: u64, row: u8, parts: Parts) -> Result<Parts, EvalEnd>
         ensures { Makes U.leads U.refuses self.old self.new (execution.acted levels row parts) result }
     {
-        if !is_built(row) {
-            return Err(EvalEnd::Fault(Fault::Nonce));
-        }
         if !self.state.take_turn() {
             return Err(EvalEnd::Fault(Fault::TimeLimit));
         }
-        let deed = deed_of(&self.room, row, parts);
+        let deed = deed_of(row, parts);
         self.does(levels, deed)
     }
 

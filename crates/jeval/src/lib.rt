@@ -3,17 +3,20 @@
 
 mod activity;
 mod applying;
+mod building;
 mod constants;
 mod end;
 mod eval;
 mod execution;
 mod laws;
+mod operators;
 mod queue;
 mod rows;
 mod sentence;
 mod showing;
 mod stack;
 mod state;
+mod targets;
 mod verbs;
 
 pub use end::EvalEnd;

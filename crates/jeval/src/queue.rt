@@ -1,12 +1,14 @@
 //! The words of a sentence as they wait to be moved.
-ghost use Rattle.std.specs.Prelude.{◌≡◌, ◌-◌, IfOk, Some, take, drop};
+ghost use Rattle.std.specs.Prelude.{◌≡◌, ◌-◌, IfOk, Some, take, drop, length};
+ghost use Rattle.jeval.specs.Constants.{numbers as numbers_of_word};
 ghost use Rattle.jeval.specs.Queue as queues;
 ghost use Rattle.jeval.specs.declared.queue.Queued.TheVariants.{Named as named};
 
-use crate::constants::{number_noun, text_noun};
+use crate::constants::{all_integers, integers, number, numbers, text_noun};
+use crate::operators::{adverb_of, conj_of};
 use crate::stack::Stack;
 use jdata::{Name, NoMemory, Primitive};
-use jterm::{Datum, Part, Term};
+use jterm::{Datum, Part, RankList, Term};
 use jwords::{Word, WordKind};
 use std::alloc::Global;
 
@@ -33,13 +35,42 @@ fn verb_part(verb: Primitive) -> Queued
     })
 }
 
-// The verb that a word spells.
-fn verb_item(run: &[u8]) -> Option<Queued>
-    ensures { result ≡ queues.verb_item run.now }
+// The adverb, conjunction or verb that a word spells.
+fn operator_item(run: &[u8]) -> Option<Queued>
+    ensures { result ≡ queues.operator_item run.now }
 {
+    if let Some(word) = adverb_of(run) {
+        return Some(Queued::Ready(Part::Adverb(word)));
+    }
+    if let Some(word) = conj_of(run) {
+        return Some(Queued::Ready(Part::Conj(word)));
+    }
     match Primitive::of(run) {
         Some(verb) => Some(verb_part(verb)),
         None => None,
+    }
+}
+
+// All but the last byte.
+fn without_last(run: &[u8]) -> &[u8]
+    ensures { result.now ≡ take (length run.now - 1) run.now }
+{
+    if run.is_empty() {
+        return run;
+    }
+    &run[..run.len() - 1]
+}
+
+// A constant verb has its number in front of its colon.
+fn inflected_item(run: &[u8]) -> Option<Queued>
+    ensures { result ≡ queues.inflected_item run.now }
+{
+    match number(without_last(run)) {
+        Some(number) => Some(Queued::Ready(Part::Verb {
+            term: Term::Const(number),
+            found: true,
+        })),
+        None => operator_item(run),
     }
 }
 
@@ -55,7 +86,7 @@ fn symbol(run: &[u8]) -> Option<Queued>
     } else if run == b")".as_slice() {
         Some(Queued::Ready(Part::Right))
     } else {
-        verb_item(run)
+        operator_item(run)
     }
 }
 
@@ -127,16 +158,37 @@ fn noun_item(noun: Result<Option<Datum>, NoMemory>) -> Result<Option<Queued>, No
     }
 }
 
+// The noun of numbers, or a number word with `_`.
+fn numbers_item(alloc: Global, all: Vec<Option<i64>>) -> Result<Option<Queued>, NoMemory>
+    ensures { IfOk result (λ item. item ≡ queues.numbers_item (Some all.items)) }
+{
+    match all_integers(alloc, &all) {
+        Ok(Some(numbers)) => noun_item(integers(alloc, numbers)),
+        Ok(None) => Ok(Some(Queued::Ready(Part::Ranks(RankList::of(all))))),
+        Err(NoMemory) => Err(NoMemory),
+    }
+}
+
+fn number_item(alloc: Global, run: &[u8]) -> Result<Option<Queued>, NoMemory>
+    ensures { IfOk result (λ item. item ≡ queues.numbers_item (numbers_of_word run.now)) }
+{
+    match numbers(alloc, run) {
+        Ok(Some(all)) => numbers_item(alloc, all),
+        Ok(None) => Ok(None),
+        Err(NoMemory) => Err(NoMemory),
+    }
+}
+
 // What a word is, where it is built.
 fn item_of(alloc: Global, kind: WordKind, run: &[u8]) -> Result<Option<Queued>, NoMemory>
     ensures { IfOk result (λ item. item ≡ queues.item_of kind run.now) }
 {
     match kind {
         WordKind::Name => name_item(alloc, run),
-        WordKind::Number => noun_item(number_noun(alloc, run)),
+        WordKind::Number => number_item(alloc, run),
         WordKind::Text => noun_item(text_noun(alloc, run)),
         WordKind::Graphic => Ok(symbol(run)),
-        WordKind::Inflected => Ok(verb_item(run)),
+        WordKind::Inflected => Ok(inflected_item(run)),
         WordKind::Comment => Ok(None),
     }
 }

@@ -5,11 +5,11 @@ ghost use Rattle.jeval.specs.Rows as rows;
 ghost use Rattle.jeval.specs.Made.{Gives};
 ghost use Rattle.jterm.specs.declared.part.Part.TheVariants as part;
 
+use crate::building::Making;
 use crate::end::EvalEnd;
 use crate::stack::{Parts, pushed};
-use jarray::Room;
-use jdata::{Fault, Kind, Name};
-use jterm::{Datum, Locative, Part, Term};
+use jdata::{Fault, Name};
+use jterm::{Adv, Con, Datum, Locative, Part, Term};
 
 /// The parts that stay where others act.
 #[derive(Drop)]
@@ -29,9 +29,20 @@ pub(crate) enum Deed {
         y: Datum,
         around: Around,
     },
+    /// What a modifier or a train makes, to be put where its parts stood.
+    Make {
+        making: Making,
+        around: Around,
+    },
     /// A name stands for a part from now on, which stays in front of the others.
     Assign {
         name: Name,
+        value: Part,
+        rest: Parts,
+    },
+    /// The names of a quoted target stand for their shares of a part, which stays.
+    Spread {
+        target: Datum,
         value: Part,
         rest: Parts,
     },
@@ -44,8 +55,8 @@ pub(crate) enum Deed {
 }
 
 impl Around {
-    /// The parts with this value where the others stood.
-    pub(crate) fn filled(self, value: Datum) -> Result<Parts, EvalEnd>
+    /// The parts with this one where the others stood.
+    pub(crate) fn filled(self, value: Part) -> Result<Parts, EvalEnd>
         ensures { Gives (rows.filled self value) result }
     {
         let Around {
@@ -53,7 +64,7 @@ impl Around {
             second,
             rest,
         } = self;
-        let rest = pushed(rest, Part::Noun(value))?;
+        let rest = pushed(rest, value)?;
         let rest = match second {
             Some(second) => pushed(rest, second)?,
             None => rest,
@@ -62,34 +73,54 @@ impl Around {
     }
 }
 
-fn verb_in(part: Part) -> Option<Term>
+fn verb_in(part: Part) -> Result<Term, Fault>
     ensures { result ≡ rows.verb_in part }
 {
     match part {
-        Part::Verb { term, .. } => Some(term),
-        _ => None,
+        Part::Verb { term, .. } => Ok(term),
+        _ => Err(Fault::Syntax),
     }
 }
 
-fn noun_in(part: Part) -> Option<Datum>
+// An argument; a number word with `_` is none.
+fn noun_in(part: Part) -> Result<Datum, Fault>
     ensures { result ≡ rows.noun_in part }
 {
     match part {
-        Part::Noun(x) => Some(x),
-        _ => None,
+        Part::Noun(x) => Ok(x),
+        Part::Ranks(_) => Err(Fault::Nonce),
+        _ => Err(Fault::Syntax),
     }
 }
 
 // A verb and the noun behind it.
-fn operands(verb: Part, y: Part) -> Option<(Term, Datum)>
+fn operands(verb: Part, y: Part) -> Result<(Term, Datum), Fault>
     ensures { result ≡ rows.operands verb y }
 {
     match verb_in(verb) {
-        Some(verb) => match noun_in(y) {
-            Some(y) => Some((verb, y)),
-            None => None,
+        Ok(verb) => match noun_in(y) {
+            Ok(y) => Ok((verb, y)),
+            Err(fault) => Err(fault),
         },
-        None => None,
+        Err(fault) => Err(fault),
+    }
+}
+
+fn adverb_in(part: Part) -> Option<Adv>
+    ensures { result ≡ rows.adverb_in part }
+{
+    match part {
+        Part::Adverb(word) => Some(word),
+        _ => None,
+    }
+}
+
+fn conj_in(part: Part) -> Option<Con>
+    ensures { result ≡ rows.conj_in part }
+{
+    match part {
+        Part::Conj(word) => Some(word),
+        _ => None,
     }
 }
 
@@ -102,32 +133,56 @@ fn first_three(mut parts: Parts) -> Option<(Part, Part, Part, Parts)>
     Some((first, second, third, parts))
 }
 
-fn monad(operands: Option<(Term, Datum)>, around: Around) -> Deed
+fn monad(operands: Result<(Term, Datum), Fault>, around: Around) -> Deed
     ensures { result ≡ rows.monad operands around }
 {
     match operands {
-        Some((verb, y)) => Deed::Apply {
+        Ok((verb, y)) => Deed::Apply {
             verb,
             x: None,
             y,
+            around,
+        },
+        Err(fault) => Deed::Refuse(fault),
+    }
+}
+
+fn dyad(x: Result<Datum, Fault>, operands: Result<(Term, Datum), Fault>, around: Around) -> Deed
+    ensures { result ≡ rows.dyad x operands around }
+{
+    match x {
+        Ok(x) => match operands {
+            Ok((verb, y)) => Deed::Apply {
+                verb,
+                x: Some(x),
+                y,
+                around,
+            },
+            Err(fault) => Deed::Refuse(fault),
+        },
+        Err(fault) => Deed::Refuse(fault),
+    }
+}
+
+fn modified(left: Part, word: Option<Adv>, around: Around) -> Deed
+    ensures { result ≡ rows.modified left word around }
+{
+    match word {
+        Some(word) => Deed::Make {
+            making: Making::Adverb { word, left },
             around,
         },
         None => Deed::Refuse(Fault::Syntax),
     }
 }
 
-fn dyad(x: Option<Datum>, operands: Option<(Term, Datum)>, around: Around) -> Deed
-    ensures { result ≡ rows.dyad x operands around }
+fn joined(left: Part, word: Option<Con>, right: Part, around: Around) -> Deed
+    ensures { result ≡ rows.joined left word right around }
 {
-    match x {
-        Some(x) => match operands {
-            Some((verb, y)) => Deed::Apply {
-                verb,
-                x: Some(x),
-                y,
-                around,
-            },
-            None => Deed::Refuse(Fault::Syntax),
+    match word {
+        Some(word) => Deed::Make {
+            making: Making::Conj { word, left, right },
+            around,
         },
         None => Deed::Refuse(Fault::Syntax),
     }
@@ -187,16 +242,6 @@ fn dyad_row(mut parts: Parts) -> Deed
     }
 }
 
-fn noun_as_target(kind: Kind) -> Fault
-    ensures { result ≡ rows.noun_as_target kind }
-{
-    match kind {
-        Kind::Char => Fault::Nonce,
-        Kind::Int => Fault::Domain,
-        Kind::Boxed => Fault::Domain,
-    }
-}
-
 // A name in a locale isn't built.
 fn plain_name(target: Locative) -> Result<Name, Fault>
     ensures { result ≡ rows.plain_name target }
@@ -207,25 +252,44 @@ fn plain_name(target: Locative) -> Result<Name, Fault>
     }
 }
 
-fn target_name(room: &Room, target: Part) -> Result<Name, Fault>
+// The name of a target that isn't quoted.
+fn target_name(target: Part) -> Result<Name, Fault>
     ensures { result ≡ rows.target_name target }
 {
     match target {
         Part::Target(target) => plain_name(target),
         Part::Ranks(_) => Err(Fault::Domain),
-        Part::Noun(noun) => Err(noun_as_target(noun.array().kind(room))),
         _ => Err(Fault::Syntax),
     }
 }
 
-fn assignment_row(room: &Room, parts: Parts) -> Deed
+fn named(name: Result<Name, Fault>, value: Part, rest: Parts) -> Deed
+    ensures { result ≡ rows.named name value rest }
+{
+    match name {
+        Ok(name) => Deed::Assign { name, value, rest },
+        Err(fault) => Deed::Refuse(fault),
+    }
+}
+
+fn assignment(target: Part, value: Part, rest: Parts) -> Deed
+    ensures { result ≡ rows.assignment target value rest }
+{
+    match target {
+        Part::Noun(target) => Deed::Spread {
+            target,
+            value,
+            rest,
+        },
+        target => named(target_name(target), value, rest),
+    }
+}
+
+fn assignment_row(parts: Parts) -> Deed
     ensures { result ≡ rows.assignment_row parts }
 {
     match first_three(parts) {
-        Some((target, _, value, rest)) => match target_name(room, target) {
-            Ok(name) => Deed::Assign { name, value, rest },
-            Err(fault) => Deed::Refuse(fault),
-        },
+        Some((target, _, value, rest)) => assignment(target, value, rest),
         None => Deed::Refuse(Fault::Syntax),
     }
 }
@@ -239,24 +303,92 @@ fn parenthesis_row(parts: Parts) -> Deed
     }
 }
 
-/// Whether something is done where this row acts.
-pub(crate) fn is_built(row: u8) -> bool
-    ensures { result ≡ rows.is_built row }
+fn adverb_row(parts: Parts) -> Deed
+    ensures { result ≡ rows.adverb_row parts }
 {
-    matches!(row, 0 | 1 | 2 | 7 | 8)
+    match first_three(parts) {
+        Some((first, left, word, rest)) => {
+            let around = Around {
+                first,
+                second: None,
+                rest,
+            };
+            modified(left, adverb_in(word), around)
+        }
+        None => Deed::Refuse(Fault::Syntax),
+    }
 }
 
-/// What a row of the table asks for, of the parts that were read.
+fn conj_row(mut parts: Parts) -> Deed
+    ensures { result ≡ rows.conj_row parts }
+{
+    let Some(first) = parts.pop() else {
+        return Deed::Refuse(Fault::Syntax);
+    };
+    match first_three(parts) {
+        Some((left, word, right, rest)) => {
+            let around = Around {
+                first,
+                second: None,
+                rest,
+            };
+            joined(left, conj_in(word), right, around)
+        }
+        None => Deed::Refuse(Fault::Syntax),
+    }
+}
+
+fn fork_row(mut parts: Parts) -> Deed
+    ensures { result ≡ rows.fork_row parts }
+{
+    let Some(first) = parts.pop() else {
+        return Deed::Refuse(Fault::Syntax);
+    };
+    match first_three(parts) {
+        Some((left, mid, right, rest)) => Deed::Make {
+            making: Making::Fork { left, mid, right },
+            around: Around {
+                first,
+                second: None,
+                rest,
+            },
+        },
+        None => Deed::Refuse(Fault::Syntax),
+    }
+}
+
+// Two parts that stand alone: a hook, if they are verbs.
+fn train_row(parts: Parts) -> Deed
+    ensures { result ≡ rows.train_row parts }
+{
+    match first_three(parts) {
+        Some((first, left, right, rest)) => Deed::Make {
+            making: Making::Hook { left, right },
+            around: Around {
+                first,
+                second: None,
+                rest,
+            },
+        },
+        None => Deed::Refuse(Fault::Syntax),
+    }
+}
+
+/// What a row of the table asks for, of the parts that were read. There are no other rows.
 #[tactic(auto, unfolding(crate::specs::Rows::deed_of))]
-pub(crate) fn deed_of(room: &Room, row: u8, parts: Parts) -> Deed
+pub(crate) fn deed_of(row: u8, parts: Parts) -> Deed
     ensures { result ≡ rows.deed_of row parts }
 {
     match row {
         0 => monad_row(parts),
         1 => inner_monad_row(parts),
         2 => dyad_row(parts),
-        7 => assignment_row(room, parts),
+        3 => adverb_row(parts),
+        4 => conj_row(parts),
+        5 => fork_row(parts),
+        6 => train_row(parts),
+        7 => assignment_row(parts),
         8 => parenthesis_row(parts),
-        _ => Deed::Refuse(Fault::Nonce),
+        _ => Deed::Refuse(Fault::Syntax),
     }
 }

@@ -1,5 +1,5 @@
 //! What is printed of a sentence.
-ghost use Rattle.std.specs.Prelude.{◌≡◌, ◌++◌, ◌∷◌, [], OnOk, IfOk};
+ghost use Rattle.std.specs.Prelude.{◌≡◌, ◌++◌, ◌∷◌, [], Ok, Some, OnOk, IfOk};
 ghost use Rattle.jformat.specs.Rows.{display_of};
 ghost use Rattle.jnumber.specs.Spelling.{written};
 ghost use Rattle.jwords.specs.Alphabet.{line_feed};
@@ -81,12 +81,23 @@ fn rows(alloc: Global, room: &mut Room, value: Datum) -> Result<Option<Bytes>, E
     }
 }
 
-fn verb_row(alloc: Global) -> Result<Bytes, NoMemory>
-    ensures { IfOk result (λ bytes. bytes ≡ showing.verb_row) }
+fn row_of(alloc: Global, word: &[u8]) -> Result<Bytes, NoMemory>
+    ensures { IfOk result (λ bytes. bytes ≡ showing.word_row word.now) }
 {
     let mut out = Vec::new(alloc);
-    append(b"verb\n", &mut out)?;
+    append(word, &mut out)?;
+    append(b"\n", &mut out)?;
     Ok(Bytes::of(out))
+}
+
+// A word in a row of its own.
+fn word_row(alloc: Global, word: &[u8]) -> Result<Option<Bytes>, EvalEnd>
+    ensures { Answers (Ok (Some (showing.word_row word.now))) result }
+{
+    match row_of(alloc, word) {
+        Ok(bytes) => Ok(Some(bytes)),
+        Err(NoMemory) => Err(NO_MEMORY),
+    }
 }
 
 // What a value shows where it is the whole result.
@@ -95,11 +106,11 @@ fn shown_part(alloc: Global, room: &mut Room, part: Part) -> Result<Option<Bytes
 {
     match part {
         Part::Noun(value) => rows(alloc, room, value),
-        Part::Verb { found: true, .. } => match verb_row(alloc) {
-            Ok(bytes) => Ok(Some(bytes)),
-            Err(NoMemory) => Err(NO_MEMORY),
-        },
+        Part::Verb { found: true, .. } => word_row(alloc, b"verb"),
         Part::Verb { found: false, .. } => Err(EvalEnd::Fault(Fault::Value)),
+        Part::Ranks(_) => Err(EvalEnd::Fault(Fault::Nonce)),
+        Part::Adverb(_) => word_row(alloc, b"adverb"),
+        Part::Conj(_) => word_row(alloc, b"conjunction"),
         _ => Ok(None),
     }
 }

@@ -50,6 +50,14 @@ impl<T: Drop> Stack<T> {
         }
     }
 
+    /// The items of a list, the first in front.
+    pub(crate) fn of(mut items: Vec<T>) -> Stack<T>
+        ensures { result ≡ items.items }
+    {
+        items.reverse();
+        Stack { items }
+    }
+
     pub(crate) fn push(&mut self, item: T) -> Result<(), NoMemory>
         ensures ok { OnOk result (self.new ≡ item ∷ self.old) }
     {

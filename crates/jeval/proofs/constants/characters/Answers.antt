@@ -1,7 +1,6 @@
-use Rattle.std.proofs.Common.{rules, ◌≡◌, ◌∙◌, ◌+◌, ◌++◌, ◌∷◌, ◌==◌, false, true, get_or, [], drop, ap, sym, arith, inl, inr}
+use Rattle.std.proofs.Common.{rules, ◌≡◌, ◌∙◌, ◌+◌, ◌++◌, ◌∷◌, ◌==◌, get_or, [], drop, ap, sym}
 use Rattle.std.proofs.lemmas.List.{append_assoc}
 use Rattle.jwords.specs.Alphabet.{quote}
-use Rattle.jeval.specs.Constants.{characters}
 use Rattle.jeval.proofs.Splitting.{characters_on, skips, keeps}
 use Rattle.jeval.proofs.constants.characters.Goals.{then-doubled, else-doubled+else-is_err}
 use Rattle.jeval.proofs.constants.characters.Goals as goal

@@ -1,6 +1,6 @@
 use Rattle.std.proofs.Common.{◌≡◌, ◌∷◌, Some, rules}
 use Rattle.juses.proofs.Doing.{Relations}
-use Rattle.jeval.specs.Execution.{term_of}
+use Rattle.jeval.specs.Makings.{term_of}
 use Rattle.jeval.proofs.Making.{makes_on, stops_by, given}
 use Rattle.jeval.proofs.activity.Activity.assign.Goals as goal
 

@@ -1,0 +1,18 @@
+use Rattle.jterm.specs.Acts.{conj_of}
+use Rattle.jeval.specs.Makings.{operand, with_operand}
+use Rattle.jeval.proofs.Makings.{goes_with, stops_with}
+use Rattle.jeval.proofs.building.made_conj.Goals as goal
+
+pub returns-in_err-left : goal.returns-in_err-left
+returns-in_err-left c = stops_with (operand c.args.left) _ c.from_residual.result (λ l. with_operand (operand c.args.right) (conj_of c.args.word l)) c.from_residual.ensures c.in_err-left.ensures
+
+pub returns-in_err-right : goal.returns-in_err-right
+returns-in_err-right c =
+    goes_with (operand c.args.left) c.in_ok-left.left c.from_residual-in_err-right.result (λ l. with_operand (operand c.args.right) (conj_of c.args.word l)) c.in_ok-left.ensures
+    (stops_with (operand c.args.right) _ c.from_residual-in_err-right.result (conj_of c.args.word c.in_ok-left.left) c.from_residual-in_err-right.ensures c.in_err-right.ensures)
+
+pub returns : goal.returns
+returns c =
+    goes_with (operand c.args.left) c.in_ok-left.left c.ended.result (λ l. with_operand (operand c.args.right) (conj_of c.args.word l)) c.in_ok-left.ensures
+    (goes_with (operand c.args.right) c.in_ok-right.right c.ended.result (conj_of c.args.word c.in_ok-left.left) c.in_ok-right.ensures
+    (c.ended.ensures (conj_of c.args.word c.in_ok-left.left c.in_ok-right.right) c.conj.ensures.value))
