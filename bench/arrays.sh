@@ -10,7 +10,7 @@ atoms=1000000 rounds=20
 
 # seconds TEXT: a script that gives this text's value again and again
 seconds() {
-    { printf 'n =: %d\na =: 9 | i. n\nk =: n $ 1 0\np =: |. i. n\nt =: 1000 1000 $ a\n' "$atoms"
+    { printf 'n =: %d\na =: 9 | i. n\nk =: n $ 1 0\np =: |. i. n\nt =: 1000 1000 $ a\ns =: i. n\n' "$atoms"
       awk -v n="$rounds" -v text="$1" 'BEGIN { for (i = 0; i < n; i++) print "b =: " text }'; } > "$work/script"
     /usr/bin/time -f '%e' -o "$work/time" crates/jconsole/out/jconsole < "$work/script" > /dev/null
     tail -n 1 "$work/time"
@@ -24,7 +24,8 @@ a = numpy.arange(n, dtype=numpy.int64) % 9
 k = numpy.resize(numpy.array([1, 0]), n)
 p = numpy.arange(n, dtype=numpy.int64)[::-1].copy()
 t = a.reshape(1000, 1000)
-apply = {'i.': lambda: numpy.arange(n, dtype=numpy.int64), ',': lambda: numpy.concatenate((a, a)), '|.': lambda: a[::-1].copy(), '{.': lambda: a[:500000].copy(), '#': lambda: numpy.repeat(a, k), '{': lambda: numpy.take(a, p), '|:': lambda: numpy.ascontiguousarray(t.T)}[verb]
+s = numpy.arange(n, dtype=numpy.int64)
+apply = {'i.': lambda: numpy.arange(n, dtype=numpy.int64), ',': lambda: numpy.concatenate((a, a)), '|.': lambda: a[::-1].copy(), '{.': lambda: a[:500000].copy(), '#': lambda: numpy.repeat(a, k), '{': lambda: numpy.take(a, p), '|:': lambda: numpy.ascontiguousarray(t.T), '/:': lambda: numpy.argsort(p, kind='stable'), '/: of equal': lambda: numpy.argsort(a, kind='stable'), 'x /: y': lambda: numpy.take(a, numpy.argsort(p, kind='stable')), 'I.': lambda: numpy.searchsorted(s, a)}[verb]
 start = time.perf_counter()
 for _ in range(rounds):
     b = apply()
@@ -51,3 +52,7 @@ row '{.' '500000 {. a' '500000 ] a'
 row '#' 'k # a' 'k ] a'
 row '{' 'p { a' 'p ] a'
 row '|:' '|: t' '] t'
+row '/:' '/: p' '] p'
+row '/: of equal' '/: a' '] a'
+row 'x /: y' 'a /: p' 'a ] p'
+row 'I.' 's I. a' 's ] a'

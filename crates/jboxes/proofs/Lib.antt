@@ -1,2 +1,3 @@
-pub mod Opened
 pub mod Linked
+pub mod Opened
+pub mod Wording

@@ -1,2 +1,3 @@
 pub mod Dyads
 pub mod Monads
+pub mod Worded

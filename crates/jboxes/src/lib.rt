@@ -3,8 +3,10 @@
 
 mod contents;
 mod made;
+mod texts;
 mod verbs;
 
+pub use texts::words;
 pub use verbs::{disclose, enclose, level, link, raze};
 
 #[cfg(test)]

@@ -1,4 +1,4 @@
-use crate::{disclose, enclose, level, link, raze};
+use crate::{disclose, enclose, level, link, raze, words};
 use jarray::{Array, Room};
 use jdata::{Bytes, Cell, CellList, Fault, IntList, Leaves, Tree, Trouble};
 use std::alloc::Global;
@@ -142,5 +142,38 @@ fn arrays_are_linked(rt: HostRuntime) -> Result<(), Fail> {
     let left = Array::of(integers(alloc, &[2], &[1, 2])?);
     let three = link(alloc, &mut room, left, two)?;
     assert_eq!(rt; three.shape(&room), [3].as_slice());
+    Ok(())
+}
+
+/// Texts in a list of boxes.
+fn boxed(alloc: Global, texts: &[&[u8]]) -> Result<Tree, Fail> {
+    let mut cells = Vec::new(alloc);
+    for each in texts {
+        cells.push(Cell::Boxed(text(alloc, *each)?))?;
+    }
+    let axes = Vec::from_slice(alloc, &[cells.len() as u64])?;
+    Ok(Tree::new(axes, Leaves::Cell(CellList::of(cells)))?)
+}
+
+#[test]
+fn texts_are_cut_into_words(rt: HostRuntime) -> Result<(), Fail> {
+    let alloc = rt.alloc();
+    let mut room = Room::none();
+    let sums = words(
+        alloc,
+        &mut room,
+        Array::of(text(alloc, b"+/ 1 2 x NB. sum")?),
+    )?;
+    let parts: &[&[u8]] = &[b"+", b"/", b"1 2", b"x", b"NB. sum"];
+    assert!(rt; is_same(alloc, &room, sums, boxed(alloc, parts)?));
+    let none = words(alloc, &mut room, Array::of(text(alloc, b" ")?))?;
+    assert!(rt; is_same(alloc, &room, none, boxed(alloc, &[])?));
+    // no atoms are characters too, and an atom is a text of one
+    let empty = words(alloc, &mut room, Array::of(integers(alloc, &[0], &[])?))?;
+    assert!(rt; is_same(alloc, &room, empty, boxed(alloc, &[])?));
+    let open = words(alloc, &mut room, Array::of(text(alloc, b"a 'b")?));
+    assert_eq!(rt; open.err(), Some(Trouble::Fault(Fault::OpenQuote)));
+    let numbers = words(alloc, &mut room, Array::atom(5));
+    assert_eq!(rt; numbers.err(), Some(Trouble::Fault(Fault::Domain)));
     Ok(())
 }

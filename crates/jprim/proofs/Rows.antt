@@ -5,7 +5,7 @@ use Rattle.jdata.specs.Noun.{shape}
 use Rattle.jdata.specs.declared.fault.Fault.{Fault}
 use Rattle.jdata.specs.declared.fault.Fault.TheVariants.{Domain, Nonce}
 use Rattle.jdata.specs.declared.primitive.Primitive.{Primitive}
-use Rattle.jdata.specs.declared.primitive.Primitive.TheVariants.{Equal, TildeColon, Dollar, Hash, Comma, CommaDot, CommaColon, BarColon, BarDot, LeftBrace, LeftBraceDot, LeftBraceColon, LeftBraceColonColon, RightBraceDot, RightBraceColon, LeftBracket, RightBracket, LeftBracketColon, IDot, IColon, CapitalIDot, Less, Greater, CapitalLDot, HashDot, HashColon, TildeDot, Semicolon, MinusColon, MinusDot, EDot}
+use Rattle.jdata.specs.declared.primitive.Primitive.TheVariants.{Equal, TildeColon, SlashColon, BackslashColon, SemicolonColon, Dollar, Hash, Comma, CommaDot, CommaColon, BarColon, BarDot, LeftBrace, LeftBraceDot, LeftBraceColon, LeftBraceColonColon, RightBraceDot, RightBraceColon, LeftBracket, RightBracket, LeftBracketColon, IDot, IColon, CapitalIDot, Less, Greater, CapitalLDot, HashDot, HashColon, TildeDot, Semicolon, MinusColon, MinusDot, EDot}
 use Rattle.jdata.specs.declared.noun.Noun.{Noun}
 use Rattle.jdata.specs.declared.noun.Atom.{Atom, Atom-F, out-Atom}
 use Rattle.jdata.specs.declared.noun.Atom.TheOpen as one
@@ -54,6 +54,10 @@ monad_is HashColon h y = cc
 monad_is TildeDot h y = cc
 monad_is TildeColon h y = cc
 monad_is Semicolon h y = cc
+monad_is Equal h y = cc
+monad_is SlashColon h y = cc
+monad_is BackslashColon h y = cc
+monad_is SemicolonColon h y = cc
 monad_is verb h y = by_integers (monad_on verb) y
 
 -- two meanings of atoms that are one
@@ -124,6 +128,9 @@ by_kind IDot w b h x y = cc
 by_kind IColon w b h x y = cc
 by_kind EDot w b h x y = cc
 by_kind Semicolon w b h x y = cc
+by_kind SlashColon w b h x y = cc
+by_kind BackslashColon w b h x y = cc
+by_kind CapitalIDot w b h x y = cc
 by_kind verb w b h x y = numbers verb _ refl refl x y
 
 pub dyad_is : (verb : Primitive) → dyads.is_whole (dyads.dyad_of verb) ≡ false → (x y : Noun) → scalar.scalar_dyad verb x y ≡ dyads.given (dyads.dyad_of verb) x y

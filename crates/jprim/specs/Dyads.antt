@@ -4,7 +4,7 @@ use Rattle.jdata.specs.Noun.{shape, atoms, product}
 use Rattle.jdata.specs.declared.fault.Fault.{Fault}
 use Rattle.jdata.specs.declared.fault.Fault.TheVariants.{Nonce, Domain, Length}
 use Rattle.jdata.specs.declared.primitive.Primitive.{Primitive}
-use Rattle.jdata.specs.declared.primitive.Primitive.TheVariants.{Equal, TildeColon, Dollar, Comma, CommaDot, CommaColon, BarColon, BarDot, LeftBraceDot, RightBraceDot, LeftBracket, RightBracket, LeftBracketColon, Hash, HashDot, HashColon, LeftBrace, LeftBraceColonColon, MinusColon, MinusDot, IDot, IColon, EDot, Semicolon}
+use Rattle.jdata.specs.declared.primitive.Primitive.TheVariants.{Equal, TildeColon, SlashColon, BackslashColon, CapitalIDot, Dollar, Comma, CommaDot, CommaColon, BarColon, BarDot, LeftBraceDot, RightBraceDot, LeftBracket, RightBracket, LeftBracketColon, Hash, HashDot, HashColon, LeftBrace, LeftBraceColonColon, MinusColon, MinusDot, IDot, IColon, EDot, Semicolon}
 use Rattle.jdata.specs.declared.noun.Noun.{Noun}
 use Rattle.jdata.specs.declared.noun.Atom.{Atom, Atom-F, out-Atom}
 use Rattle.jdata.specs.declared.noun.Atom.TheOpen as one
@@ -12,6 +12,8 @@ use Rattle.jarray.specs.Matches.{equal_atoms}
 use Rattle.jarray.specs.Numbers.{is_integers, integers}
 use Rattle.jboxes.specs.Dyads as links
 use Rattle.jsearch.specs.Finding as finding
+use Rattle.jsearch.specs.Grades as grades
+use Rattle.jsearch.specs.Intervals as intervals
 use Rattle.jscalar.specs.Dyads.{dyad_on}
 use Rattle.jscalar.specs.Places.{by_place}
 use Rattle.jscalar.specs.Truths.{truth}
@@ -76,6 +78,9 @@ dyad_of IDot = Whole None None finding.index_of
 dyad_of IColon = Whole None None finding.last_index_of
 dyad_of EDot = Whole None None finding.member
 dyad_of Semicolon = Whole None None links.linked
+dyad_of SlashColon = Whole None None grades.sorted_up
+dyad_of BackslashColon = Whole None None grades.sorted_down
+dyad_of CapitalIDot = Whole None None intervals.interval_index
 dyad_of verb = on_integers (dyad_on verb)
 
 -- what a meaning on integers gives of two atoms

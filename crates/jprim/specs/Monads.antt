@@ -3,15 +3,18 @@ use Rattle.std.specs.Prelude.{Bool, true, false, ℤ, pos, Option, Some, None, R
 use Rattle.jdata.specs.declared.fault.Fault.{Fault}
 use Rattle.jdata.specs.declared.fault.Fault.TheVariants.{Nonce}
 use Rattle.jdata.specs.declared.primitive.Primitive.{Primitive}
-use Rattle.jdata.specs.declared.primitive.Primitive.TheVariants.{Dollar, Hash, Comma, CommaDot, CommaColon, BarColon, BarDot, LeftBraceDot, LeftBraceColon, RightBraceDot, RightBraceColon, LeftBracket, RightBracket, LeftBracketColon, IDot, IColon, CapitalIDot, Less, Greater, CapitalLDot, HashDot, HashColon, TildeDot, TildeColon, Semicolon}
+use Rattle.jdata.specs.declared.primitive.Primitive.TheVariants.{Equal, SlashColon, BackslashColon, SemicolonColon, Dollar, Hash, Comma, CommaDot, CommaColon, BarColon, BarDot, LeftBraceDot, LeftBraceColon, RightBraceDot, RightBraceColon, LeftBracket, RightBracket, LeftBracketColon, IDot, IColon, CapitalIDot, Less, Greater, CapitalLDot, HashDot, HashColon, TildeDot, TildeColon, Semicolon}
 use Rattle.jdata.specs.declared.noun.Noun.{Noun}
 use Rattle.jboxes.specs.Monads as boxes
+use Rattle.jboxes.specs.Worded as words
 use Rattle.jframe.specs.Ranks.{at_rank}
 use Rattle.jscalar.specs.Monads.{monad_on}
 use Rattle.jmono.specs.Monads.{each_integer}
 use Rattle.jradix.specs.Bases as bases
 use Rattle.jradix.specs.Digits as digits
+use Rattle.jsearch.specs.Classes as classes
 use Rattle.jsearch.specs.Finding as finding
+use Rattle.jsearch.specs.Grades as grades
 use Rattle.jsearch.specs.Steps as steps
 use Rattle.jsearch.specs.Turned as turned
 use Rattle.jselect.specs.Copies as copies
@@ -63,6 +66,10 @@ monad_of HashColon = Whole None digits.binary
 monad_of TildeDot = Whole None finding.nub
 monad_of TildeColon = Whole None finding.sieve
 monad_of Semicolon = Whole None boxes.razed
+monad_of Equal = Whole None classes.classified
+monad_of SlashColon = Whole None grades.grade_up
+monad_of BackslashColon = Whole None grades.grade_down
+monad_of SemicolonColon = Whole (Some (pos 1)) words.worded
 monad_of verb = on_integers (monad_on verb)
 
 -- what a row gives of an array

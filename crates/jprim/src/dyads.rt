@@ -4,6 +4,8 @@ ghost use Rattle.jradix.specs.Bases as bases;
 ghost use Rattle.jradix.specs.Digits as digits;
 ghost use Rattle.jboxes.specs.Dyads as links;
 ghost use Rattle.jsearch.specs.Finding as finding;
+ghost use Rattle.jsearch.specs.Grades as grades;
+ghost use Rattle.jsearch.specs.Intervals as intervals;
 ghost use Rattle.jselect.specs.Copies as copies;
 ghost use Rattle.jselect.specs.From as choosing;
 ghost use Rattle.jstruct.specs.Axes as axes;
@@ -256,5 +258,38 @@ impl WholeDyad for Linked {
 
     fn apply(alloc: Global, room: &mut Room, x: Array, y: Array) -> Result<Array, Trouble> {
         jboxes::link(alloc, room, x, y)
+    }
+}
+
+/// The items of x in the rising order of those of y.
+pub struct SortedUp;
+
+impl WholeDyad for SortedUp {
+    ghost meant = { grades.sorted_up };
+
+    fn apply(alloc: Global, room: &mut Room, x: Array, y: Array) -> Result<Array, Trouble> {
+        jsearch::sort_up(alloc, room, x, y)
+    }
+}
+
+/// The items of x in the falling order of those of y.
+pub struct SortedDown;
+
+impl WholeDyad for SortedDown {
+    ghost meant = { grades.sorted_down };
+
+    fn apply(alloc: Global, room: &mut Room, x: Array, y: Array) -> Result<Array, Trouble> {
+        jsearch::sort_down(alloc, room, x, y)
+    }
+}
+
+/// How many of the list x stand before each atom of y.
+pub struct IntervalIndex;
+
+impl WholeDyad for IntervalIndex {
+    ghost meant = { intervals.interval_index };
+
+    fn apply(alloc: Global, room: &mut Room, x: Array, y: Array) -> Result<Array, Trouble> {
+        jsearch::interval_index(alloc, room, x, y)
     }
 }

@@ -1,9 +1,12 @@
 //! The verbs of one whole array: each with its kernel.
 
 ghost use Rattle.jboxes.specs.Monads as boxes;
+ghost use Rattle.jboxes.specs.Worded as words;
 ghost use Rattle.jradix.specs.Bases as bases;
 ghost use Rattle.jradix.specs.Digits as digits;
+ghost use Rattle.jsearch.specs.Classes as classes;
 ghost use Rattle.jsearch.specs.Finding as finding;
+ghost use Rattle.jsearch.specs.Grades as grades;
 ghost use Rattle.jsearch.specs.Steps as steps;
 ghost use Rattle.jsearch.specs.Turned as turned;
 ghost use Rattle.jselect.specs.Copies as copies;
@@ -279,5 +282,49 @@ impl WholeMonad for Raze {
 
     fn apply(alloc: Global, room: &mut Room, y: Array) -> Result<Array, Trouble> {
         jboxes::raze(alloc, room, y)
+    }
+}
+
+/// Which items match which.
+pub struct Classify;
+
+impl WholeMonad for Classify {
+    ghost meant = { classes.classified };
+
+    fn apply(alloc: Global, room: &mut Room, y: Array) -> Result<Array, Trouble> {
+        jsearch::classify(alloc, room, y)
+    }
+}
+
+/// The places of the items in rising order.
+pub struct GradeUp;
+
+impl WholeMonad for GradeUp {
+    ghost meant = { grades.grade_up };
+
+    fn apply(alloc: Global, room: &mut Room, y: Array) -> Result<Array, Trouble> {
+        jsearch::grade_up(alloc, room, y)
+    }
+}
+
+/// The places of the items in falling order.
+pub struct GradeDown;
+
+impl WholeMonad for GradeDown {
+    ghost meant = { grades.grade_down };
+
+    fn apply(alloc: Global, room: &mut Room, y: Array) -> Result<Array, Trouble> {
+        jsearch::grade_down(alloc, room, y)
+    }
+}
+
+/// The words of a text.
+pub struct Words;
+
+impl WholeMonad for Words {
+    ghost meant = { words.worded };
+
+    fn apply(alloc: Global, room: &mut Room, y: Array) -> Result<Array, Trouble> {
+        jboxes::words(alloc, room, y)
     }
 }

@@ -98,7 +98,7 @@ const SIX: Given<'static> = (&[2, 3], &[0, 1, 2, 3, 4, 5]);
 #[test]
 fn monads_on_whole_arrays(rt: HostRuntime) -> Result<(), Fail> {
     let alloc = rt.alloc();
-    let table: [(Primitive, Given<'_>, Result<Given<'_>, Fault>); 22] = [
+    let table: [(Primitive, Given<'_>, Result<Given<'_>, Fault>); 26] = [
         (Primitive::Dollar, SIX, Ok((&[2], &[2, 3]))),
         (Primitive::Hash, SIX, Ok((&[], &[2]))),
         (Primitive::Comma, SIX, Ok((&[6], SIX.1))),
@@ -147,6 +147,26 @@ fn monads_on_whole_arrays(rt: HostRuntime) -> Result<(), Fail> {
             (&[2, 2], &[1, 0, 0, 2]),
             Ok((&[2, 2], &[0, 0, 1, 1])),
         ),
+        (
+            Primitive::SlashColon,
+            (&[3], &[7, 5, 7]),
+            Ok((&[3], &[1, 0, 2])),
+        ),
+        (
+            Primitive::BackslashColon,
+            (&[3], &[7, 5, 7]),
+            Ok((&[3], &[0, 2, 1])),
+        ),
+        (
+            Primitive::Equal,
+            (&[3], &[7, 5, 7]),
+            Ok((&[2, 3], &[1, 0, 1, 0, 1, 0])),
+        ),
+        (
+            Primitive::SemicolonColon,
+            (&[2], &[7, 5]),
+            Err(Fault::Domain),
+        ),
         // with no cell, the shape is that of the cell of fills
         (Primitive::IDot, (&[0, 2], &[]), Ok((&[0, 0, 0], &[]))),
         (Primitive::IColon, (&[0], &[]), Ok((&[0, 1], &[]))),
@@ -165,7 +185,7 @@ fn dyads_on_whole_arrays(rt: HostRuntime) -> Result<(), Fail> {
     let alloc = rt.alloc();
     let two: Given<'_> = (&[2], &[7, 8]);
     let three: Given<'_> = (&[3], &[5, 6, 7]);
-    let table: [(Primitive, Given<'_>, Given<'_>, Result<Given<'_>, Fault>); 22] = [
+    let table: [(Primitive, Given<'_>, Given<'_>, Result<Given<'_>, Fault>); 25] = [
         (Primitive::Dollar, (&[2], &[2, 3]), (&[6], SIX.1), Ok(SIX)),
         (
             Primitive::BarDot,
@@ -250,6 +270,24 @@ fn dyads_on_whole_arrays(rt: HostRuntime) -> Result<(), Fail> {
             (&[], &[1]),
             three,
             Ok((&[], &[6])),
+        ),
+        (
+            Primitive::SlashColon,
+            three,
+            (&[3], &[2, 1, 2]),
+            Ok((&[3], &[6, 5, 7])),
+        ),
+        (
+            Primitive::BackslashColon,
+            three,
+            (&[3], &[2, 1, 2]),
+            Ok((&[3], &[5, 7, 6])),
+        ),
+        (
+            Primitive::CapitalIDot,
+            three,
+            (&[2], &[6, 9]),
+            Ok((&[2], &[1, 3])),
         ),
         // with no cell, the shape is that of the cell of fills
         (Primitive::LeftBrace, (&[0], &[]), SIX, Ok((&[0, 3], &[]))),

@@ -49,6 +49,10 @@ pub fn monad(alloc: Global, room: &mut Room, verb: Primitive, y: Array) -> Resul
         Primitive::TildeDot => ranked_monad::<monads::Nub>(alloc, room, None, y),
         Primitive::TildeColon => ranked_monad::<monads::Sieve>(alloc, room, None, y),
         Primitive::Semicolon => ranked_monad::<monads::Raze>(alloc, room, None, y),
+        Primitive::Equal => ranked_monad::<monads::Classify>(alloc, room, None, y),
+        Primitive::SlashColon => ranked_monad::<monads::GradeUp>(alloc, room, None, y),
+        Primitive::BackslashColon => ranked_monad::<monads::GradeDown>(alloc, room, None, y),
+        Primitive::SemicolonColon => ranked_monad::<monads::Words>(alloc, room, Some(1), y),
         _ => each_atom(alloc, room, verb, y),
     }
 }
@@ -103,6 +107,13 @@ pub fn dyad(
         Primitive::IColon => ranked_dyad::<dyads::LastIndexOf>(alloc, room, None, None, x, y),
         Primitive::EDot => ranked_dyad::<dyads::Member>(alloc, room, None, None, x, y),
         Primitive::Semicolon => ranked_dyad::<dyads::Linked>(alloc, room, None, None, x, y),
+        Primitive::SlashColon => ranked_dyad::<dyads::SortedUp>(alloc, room, None, None, x, y),
+        Primitive::BackslashColon => {
+            ranked_dyad::<dyads::SortedDown>(alloc, room, None, None, x, y)
+        }
+        Primitive::CapitalIDot => {
+            ranked_dyad::<dyads::IntervalIndex>(alloc, room, None, None, x, y)
+        }
         _ => each_pair(alloc, room, verb, x, y),
     }
 }

@@ -1,9 +1,17 @@
+pub mod Alike
+pub mod Between
+pub mod Classed
 pub mod Coding
 pub mod Deep
 pub mod Found
 pub mod Given
+pub mod Graded
+pub mod KeyLists
 pub mod Looking
 pub mod Made
+pub mod OneGrade
+pub mod OrderLaws
+pub mod Placing
 pub mod Pushed
 pub mod Pushing
 pub mod Sought

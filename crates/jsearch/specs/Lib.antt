@@ -1,5 +1,10 @@
+pub mod Classes
 pub mod Codes
 pub mod Finding
+pub mod Grades
+pub mod Intervals
+pub mod Laws
 pub mod Listed
+pub mod Order
 pub mod Steps
 pub mod Turned

@@ -108,7 +108,8 @@ fn range_of(atoms: Leaf<'_>, start: usize, count: usize) -> Leaf<'_>
     }
 }
 
-fn range<T>(items: &[T], start: usize, count: usize) -> &[T]
+/// So many items of a list, from one on.
+pub fn range<T>(items: &[T], start: usize, count: usize) -> &[T]
     requires { start + count ≤ length items.now }
     ensures { result.now ≡ take count (drop start items.now) }
 {

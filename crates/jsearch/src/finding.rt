@@ -97,7 +97,7 @@ pub fn matched(_alloc: Global, room: &mut Room, x: Array, y: Array) -> Result<Ar
     Ok(Array::atom(truth(same)))
 }
 
-fn truth(holds: bool) -> i64
+pub fn truth(holds: bool) -> i64
     ensures { result ≡ truth_of holds }
 {
     if holds { 1 } else { 0 }

@@ -5,17 +5,17 @@ use std::alloc::Global;
 use std::process::Abort;
 use std::test::Fail;
 
-fn ints(alloc: Global, axes: &[u64], numbers: &[i64]) -> Result<Array, Fail> {
+pub fn ints(alloc: Global, axes: &[u64], numbers: &[i64]) -> Result<Array, Fail> {
     let shape = Vec::from_slice(alloc, axes)?;
     let atoms = IntList::of(Vec::from_slice(alloc, numbers)?);
     Ok(Array::of(Tree::new(shape, Leaves::Int(atoms))?))
 }
 
-fn list(alloc: Global, numbers: &[i64]) -> Result<Array, Fail> {
+pub fn list(alloc: Global, numbers: &[i64]) -> Result<Array, Fail> {
     ints(alloc, &[numbers.len() as u64], numbers)
 }
 
-fn expect(rt: &impl Abort, answer: Result<Array, Trouble>, expected: Array) {
+pub fn expect(rt: &impl Abort, answer: Result<Array, Trouble>, expected: Array) {
     let room = Room::none();
     match answer {
         Ok(array) => assert!(rt; array.match_with(&room, &expected)),
@@ -23,7 +23,7 @@ fn expect(rt: &impl Abort, answer: Result<Array, Trouble>, expected: Array) {
     }
 }
 
-fn expect_fault(rt: &impl Abort, answer: Result<Array, Trouble>, fault: Fault) {
+pub fn expect_fault(rt: &impl Abort, answer: Result<Array, Trouble>, fault: Fault) {
     match answer {
         Ok(_) => assert!(rt; false),
         Err(trouble) => assert_eq!(rt; trouble, Trouble::Fault(fault)),
@@ -93,14 +93,14 @@ fn steps_and_places(rt: HostRuntime) -> Result<(), Fail> {
     Ok(())
 }
 
-fn chars(alloc: Global, axes: &[u64], bytes: &[u8]) -> Result<Array, Fail> {
+pub fn chars(alloc: Global, axes: &[u64], bytes: &[u8]) -> Result<Array, Fail> {
     let shape = Vec::from_slice(alloc, axes)?;
     let atoms = Bytes::of(Vec::from_slice(alloc, bytes)?);
     Ok(Array::of(Tree::new(shape, Leaves::Char(atoms))?))
 }
 
 /// A list of boxed texts.
-fn boxes(alloc: Global, texts: &[&[u8]]) -> Result<Array, Fail> {
+pub fn boxes(alloc: Global, texts: &[&[u8]]) -> Result<Array, Fail> {
     let mut cells = Vec::new(alloc);
     for text in texts {
         let text = *text;
