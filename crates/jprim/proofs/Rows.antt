@@ -5,7 +5,7 @@ use Rattle.jdata.specs.Noun.{shape}
 use Rattle.jdata.specs.declared.fault.Fault.{Fault}
 use Rattle.jdata.specs.declared.fault.Fault.TheVariants.{Domain, Nonce}
 use Rattle.jdata.specs.declared.primitive.Primitive.{Primitive}
-use Rattle.jdata.specs.declared.primitive.Primitive.TheVariants.{Equal, TildeColon, SlashColon, BackslashColon, SemicolonColon, Dollar, Hash, Comma, CommaDot, CommaColon, BarColon, BarDot, LeftBrace, LeftBraceDot, LeftBraceColon, LeftBraceColonColon, RightBraceDot, RightBraceColon, LeftBracket, RightBracket, LeftBracketColon, IDot, IColon, CapitalIDot, Less, Greater, CapitalLDot, HashDot, HashColon, TildeDot, Semicolon, MinusColon, MinusDot, EDot}
+use Rattle.jdata.specs.declared.primitive.Primitive.TheVariants.{Equal, TildeColon, SlashColon, BackslashColon, SemicolonColon, QuoteColon, Dollar, Hash, Comma, CommaDot, CommaColon, BarColon, BarDot, LeftBrace, LeftBraceDot, LeftBraceColon, LeftBraceColonColon, RightBraceDot, RightBraceColon, LeftBracket, RightBracket, LeftBracketColon, IDot, IColon, CapitalIDot, Less, Greater, CapitalLDot, HashDot, HashColon, TildeDot, Semicolon, MinusColon, MinusDot, EDot}
 use Rattle.jdata.specs.declared.noun.Noun.{Noun}
 use Rattle.jdata.specs.declared.noun.Atom.{Atom, Atom-F, out-Atom}
 use Rattle.jdata.specs.declared.noun.Atom.TheOpen as one
@@ -58,6 +58,7 @@ monad_is Equal h y = cc
 monad_is SlashColon h y = cc
 monad_is BackslashColon h y = cc
 monad_is SemicolonColon h y = cc
+monad_is QuoteColon h y = cc
 monad_is verb h y = by_integers (monad_on verb) y
 
 -- two meanings of atoms that are one

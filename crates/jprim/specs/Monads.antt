@@ -3,10 +3,11 @@ use Rattle.std.specs.Prelude.{Bool, true, false, ℤ, pos, Option, Some, None, R
 use Rattle.jdata.specs.declared.fault.Fault.{Fault}
 use Rattle.jdata.specs.declared.fault.Fault.TheVariants.{Nonce}
 use Rattle.jdata.specs.declared.primitive.Primitive.{Primitive}
-use Rattle.jdata.specs.declared.primitive.Primitive.TheVariants.{Equal, SlashColon, BackslashColon, SemicolonColon, Dollar, Hash, Comma, CommaDot, CommaColon, BarColon, BarDot, LeftBraceDot, LeftBraceColon, RightBraceDot, RightBraceColon, LeftBracket, RightBracket, LeftBracketColon, IDot, IColon, CapitalIDot, Less, Greater, CapitalLDot, HashDot, HashColon, TildeDot, TildeColon, Semicolon}
+use Rattle.jdata.specs.declared.primitive.Primitive.TheVariants.{Equal, SlashColon, BackslashColon, SemicolonColon, QuoteColon, Dollar, Hash, Comma, CommaDot, CommaColon, BarColon, BarDot, LeftBraceDot, LeftBraceColon, RightBraceDot, RightBraceColon, LeftBracket, RightBracket, LeftBracketColon, IDot, IColon, CapitalIDot, Less, Greater, CapitalLDot, HashDot, HashColon, TildeDot, TildeColon, Semicolon}
 use Rattle.jdata.specs.declared.noun.Noun.{Noun}
 use Rattle.jboxes.specs.Monads as boxes
 use Rattle.jboxes.specs.Worded as words
+use Rattle.jformat.specs.Format as formats
 use Rattle.jframe.specs.Ranks.{at_rank}
 use Rattle.jscalar.specs.Monads.{monad_on}
 use Rattle.jmono.specs.Monads.{each_integer}
@@ -70,6 +71,7 @@ monad_of Equal = Whole None classes.classified
 monad_of SlashColon = Whole None grades.grade_up
 monad_of BackslashColon = Whole None grades.grade_down
 monad_of SemicolonColon = Whole (Some (pos 1)) words.worded
+monad_of QuoteColon = Whole None formats.format_of
 monad_of verb = on_integers (monad_on verb)
 
 -- what a row gives of an array

@@ -2,6 +2,7 @@
 
 ghost use Rattle.jboxes.specs.Monads as boxes;
 ghost use Rattle.jboxes.specs.Worded as words;
+ghost use Rattle.jformat.specs.Format as formats;
 ghost use Rattle.jradix.specs.Bases as bases;
 ghost use Rattle.jradix.specs.Digits as digits;
 ghost use Rattle.jsearch.specs.Classes as classes;
@@ -17,7 +18,7 @@ ghost use Rattle.jstruct.specs.Shaping as shaping;
 ghost use Rattle.jstruct.specs.Transposing as transposing;
 
 use jarray::{Array, Room};
-use jdata::Trouble;
+use jdata::{NoMemory, Trouble};
 use jframe::WholeMonad;
 use std::alloc::Global;
 
@@ -326,5 +327,23 @@ impl WholeMonad for Words {
 
     fn apply(alloc: Global, room: &mut Room, y: Array) -> Result<Array, Trouble> {
         jboxes::words(alloc, room, y)
+    }
+}
+
+/// The display, as characters.
+pub struct Format;
+
+impl WholeMonad for Format {
+    ghost meant = { formats.format_of };
+
+    fn apply(alloc: Global, room: &mut Room, y: Array) -> Result<Array, Trouble> {
+        let tree = match y.into_tree(alloc, room) {
+            Ok(tree) => tree,
+            Err(NoMemory) => return Err(Trouble::NoMemory),
+        };
+        match jformat::format(alloc, &tree) {
+            Ok(text) => Ok(Array::of(text)),
+            Err(trouble) => Err(trouble),
+        }
     }
 }

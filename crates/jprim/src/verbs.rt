@@ -53,6 +53,7 @@ pub fn monad(alloc: Global, room: &mut Room, verb: Primitive, y: Array) -> Resul
         Primitive::SlashColon => ranked_monad::<monads::GradeUp>(alloc, room, None, y),
         Primitive::BackslashColon => ranked_monad::<monads::GradeDown>(alloc, room, None, y),
         Primitive::SemicolonColon => ranked_monad::<monads::Words>(alloc, room, Some(1), y),
+        Primitive::QuoteColon => ranked_monad::<monads::Format>(alloc, room, None, y),
         _ => each_atom(alloc, room, verb, y),
     }
 }
