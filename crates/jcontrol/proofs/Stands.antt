@@ -1,5 +1,5 @@
 -- Words that agree with a block do what the block means.
-use Rattle.std.proofs.Common.{ℕ, zero, suc, ◌≡◌, ◌+◌, ◌++◌, List, [], ◌∷◌, Bool, true, false, cond, Option, Some, None, take, length, get_or, slice_get, refl, sym, ap, subst, ◌∙◌, arith, append_assoc, append-nil, length-append}
+use Rattle.std.proofs.Common.{ℕ, zero, suc, ◌≡◌, ◌+◌, ◌++◌, List, [], ◌∷◌, Bool, true, false, cond, Option, Some, None, take, length, get_or, slice_get, refl, sym, ap, subst, ◌∙◌, append_assoc, append-nil, length-append}
 use Rattle.std.proofs.Math.Seq.{take-append_seam, get_or-append_seam}
 use Rattle.jcontrol.specs.declared.frame.Step.TheVariants as step
 use Rattle.jcontrol.specs.declared.frame.Reply.TheVariants.{Told, Fault}

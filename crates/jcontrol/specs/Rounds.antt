@@ -1,5 +1,5 @@
 -- How many rounds a body made, of those that it was given.
-use Rattle.std.specs.Prelude.{ℕ, ◌+◌, true, Some, List, [], ◌∷◌, ◌≡◌, ◌⊎◌}
+use Rattle.std.specs.Prelude.{ℕ, ◌+◌, true, Some, List, [], ◌∷◌, ◌≡◌}
 use Rattle.jcontrol.specs.declared.frame.Step.{Step}
 use Rattle.jcontrol.specs.declared.frame.Step.TheVariants as step
 use Rattle.jcontrol.specs.declared.frame.Reply.{Reply}
