@@ -1,5 +1,5 @@
 -- The grammar of bodies, J Dictionary, "Control Structures": the words of a block, and then what follows it.
-use Rattle.std.specs.Prelude.{Bool, true, ◌≡◌, List, [], ◌∷◌}
+use Rattle.std.specs.Prelude.{Bool, true, ◌≡◌, List, ◌∷◌}
 use Rattle.jexplicit.specs.declared.kind.Kind.{Kind}
 use Rattle.jexplicit.specs.declared.kind.Kind.TheVariants as kind
 use Rattle.jexplicit.specs.declared.kind.Looping.{Looping}
