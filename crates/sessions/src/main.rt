@@ -5,12 +5,12 @@ mod case;
 mod session;
 
 use case::Case;
-use session::prints;
-use std::alloc::Global;
+use jsession::Status;
+use session::run_case;
 use std::rt::Env;
 use std::{env, fs, io};
 
-// How many sessions of a file there are, and how many print what they are to.
+// How many sessions of a file there are, and how many are done and print what they are to.
 #[derive(Drop)]
 struct Count {
     all: u64,
@@ -30,12 +30,12 @@ fn run_file(rt: &HostRuntime, text: &str) -> io::Result<Count> {
     let mut count = Count { all: 0, right: 0 };
     for piece in text.split("=== ").skip(1) {
         let case = Case::of(piece);
-        let got = prints(rt.alloc(), &case)?;
+        let ran = run_case(rt.alloc(), &case)?;
         count.all = count.all.saturating_add(1);
-        if got.as_slice() == case.prints.as_bytes() {
+        if ran.status == Status::Done && ran.prints.as_slice() == case.prints.as_bytes() {
             count.right = count.right.saturating_add(1);
         } else {
-            report(rt, &case, &got)?;
+            report(rt, &case, &ran.prints)?;
         }
     }
     Ok(count)
