@@ -8,6 +8,3 @@ mod verbs;
 
 pub use texts::words;
 pub use verbs::{disclose, enclose, level, link, raze};
-
-#[cfg(test)]
-mod tests;

@@ -8,3 +8,4 @@ pub mod Reading
 pub mod Splitting
 pub mod Quoted
 pub mod Makings
+mod Celling

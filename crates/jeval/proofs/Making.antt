@@ -1,5 +1,6 @@
 -- How what an activity did is put together.
-use Rattle.std.proofs.Common.{◌≡◌, refl, sym, ap, subst, ℕ, List, Result, Ok, Err, IsErr, IsErrAnd, IfOk, IfErr}
+use Rattle.std.proofs.Common.{◌≡◌, refl, sym, ap, subst, ℕ, Bool, true, false, List, Result, Ok, Err, IsErr, IsErrAnd, IfOk, IfErr}
+use Rattle.std.specs.Prelude.{if◌then◌else◌}
 use Rattle.jdata.specs.declared.fault.Fault.{Fault}
 use Rattle.juses.specs.Events.{Runs, RunsWhole}
 use Rattle.juses.specs.Program.{Program, Return, Ask, ◌>>=◌}
@@ -17,9 +18,9 @@ use Rattle.jeval.specs.declared.activity.Activity.{Activity}
 use Rattle.jeval.specs.declared.end.EvalEnd.{EvalEnd}
 use Rattle.jeval.specs.declared.end.EvalEnd.TheVariants as end
 use Rattle.jeval.specs.declared.state.State.{State}
-use Rattle.jeval.specs.Action.{Action, asks, gives, fails, answers, going_on, ◌then◌}
+use Rattle.jeval.specs.Action.{Action, asks, gives, fails, answers, going_on, hearing, is_time_limit, ◌then◌, ◌hears◌}
 use Rattle.jeval.specs.Activity.{IsAsked, wish_of}
-use Rattle.jeval.specs.Made.{Makes, Tells, Closes, Gives, Answers, settled, beside}
+use Rattle.jeval.specs.Made.{Makes, Tells, Closes, Gives, Answers, settled, beside, end_of, heard_of}
 
 module _ {S : Type 0} (uses : Relations S) where
   abbrev pub Made : {A : Type 0} → Activity S → Activity S → Action A → Result A EvalEnd → Type 0
@@ -54,6 +55,67 @@ module _ {S : Type 0} (uses : Relations S) where
   stops_by {r = Ok v} f said h = absurd said.1
   stops_by {a = a} {b = b} {p = p} {why = why} {r = Err w} f said h = let P : EvalEnd → Type 0 = λ e. Made a b (p then f) (Err e) in subst P (sym said.1) (stops_at a b p f why h)
 
+  not_late : {A : Type 0} (e : Fault) (answer : Result A Fault) (b : Bool) → (let said : Result (Result A Fault) EvalEnd = if b then Err (end.Fault e) else Ok (Err e) in said ≡ Ok answer) → (b ≡ false) × (Err e ≡ answer)
+  not_late e answer true is = cc
+  not_late e answer false is = (refl, cc)
+
+  -- after an answer that is heard
+  hears_at : {A B : Type 0} (a b c : Activity S) (p : Action A) (f : Result A Fault → Action B) (came : Result A EvalEnd) (answer : Result A Fault) (r : Result B EvalEnd)
+      → heard_of came ≡ Ok answer → Made a b p came → Made b c (f answer) r → Made a c (p hears f) r
+  unfolding ◌hears◌
+  hears_at {A} {B} a b c p f (Ok v) answer r is h k =
+      let heard : Ok v ≡ answer = cc in
+      let P : List ℕ → Type 0 = λ who. Runs uses.leads uses.refuses who b.uses c.uses (f (Ok v) b.state) (settled r c.state) in
+      let Q : Result A Fault → Type 0 = λ o. Made b c (f o) r in
+      let on = subst Q (sym heard) k in
+      record {
+        same = rw (on.same, h.same) refl;
+        made = goes_on uses a.who a.uses b.uses c.uses (p a.state) (hearing f) (Ok v, b.state) (settled r c.state) h.made (subst P h.same on.made);
+      }
+  hears_at {A} {B} a b c p f (Err (end.Fault e)) answer r is h k =
+      let late = not_late {A = A} e answer (is_time_limit e) is in
+      let Q : Result A Fault → Type 0 = λ o. Made b c (f o) r in
+      let on = subst Q (sym late.1) k in
+      let P : List ℕ → Type 0 = λ who. Runs uses.leads uses.refuses who b.uses c.uses (f (Err e) b.state) (settled r c.state) in
+      let R : Bool → Type 0 = λ x. Runs uses.leads uses.refuses a.who b.uses c.uses (if x then fails e b.state else f (Err e) b.state) (settled r c.state) in
+      record {
+        same = rw (on.same, h.same) refl;
+        made = goes_on uses a.who a.uses b.uses c.uses (p a.state) (hearing f) (Err e, b.state) (settled r c.state) h.made (subst R (sym late.0) (subst P h.same on.made));
+      }
+  hears_at a b c p f (Err (end.Halt halt)) answer r is h k = cc
+
+  pub makes_heard : {A B : Type 0} {a b c : Activity S} {p : Action A} {came : Result A EvalEnd} {answer : Result A Fault} {r : Result B EvalEnd} (f : Result A Fault → Action B)
+      → heard_of came ≡ Ok answer → Made a b p came → Made b c (f answer) r → Made a c (p hears f) r
+  makes_heard {a = a} {b = b} {c = c} {p = p} {came = came} {answer = answer} {r = r} f is h k = hears_at a b c p f came answer r is h k
+
+  -- TimeLimit and a halt aren't heard
+  is_late : {A : Type 0} (e : Fault) (why : EvalEnd) (b : Bool) → (let said : Result (Result A Fault) EvalEnd = if b then Err (end.Fault e) else Ok (Err e) in said ≡ Err why) → (b ≡ true) × (end.Fault e ≡ why)
+  is_late e why true is = (refl, cc)
+  is_late e why false is = cc
+
+  unheard_at : {A B : Type 0} (a b : Activity S) (p : Action A) (f : Result A Fault → Action B) (came : Result A EvalEnd) (why : EvalEnd)
+      → heard_of came ≡ Err why → Made a b p came → Made a b (p hears f) (Err why)
+  unfolding ◌hears◌
+  unheard_at a b p f (Ok v) why is h = cc
+  unheard_at {A} {B} a b p f (Err (end.Fault e)) why is h =
+      let late = is_late {A = A} e why (is_time_limit e) is in
+      let E : Result B Fault = Err e in
+      let R : Bool → Type 0 = λ x. Runs uses.leads uses.refuses a.who b.uses b.uses (if x then fails e b.state else f (Err e) b.state) (Ok (E, b.state)) in
+      let Q : EvalEnd → Type 0 = λ w. Made a b (λ s. p s >>= hearing f) (Err w) in
+      subst Q late.1 record {
+        same = h.same;
+        made = goes_on uses a.who a.uses b.uses b.uses (p a.state) (hearing f) (Err e, b.state) (Ok (E, b.state)) h.made (subst R (sym late.0) (returns uses a.who b.uses (E, b.state)));
+      }
+  unheard_at {A} {B} a b p f (Err (end.Halt halt)) why is h =
+      let halted : end.Halt halt ≡ why = cc in
+      let Q : EvalEnd → Type 0 = λ w. Made a b (λ s. p s >>= hearing f) (Err w) in
+      subst Q halted record { same = h.same; made = halts uses a.who a.uses b.uses (p a.state) (hearing f) halt h.made }
+
+  pub stops_unheard : {A B : Type 0} {a b : Activity S} {p : Action A} {came : Result A EvalEnd} {why : EvalEnd} {r : Result B EvalEnd} (f : Result A Fault → Action B)
+      → IsErr r × IsErrAnd r (λ w. w ≡ why) → heard_of came ≡ Err why → Made a b p came → Made a b (p hears f) r
+  stops_unheard {r = Ok v} f said is h = absurd said.1
+  stops_unheard {a = a} {b = b} {p = p} {came = came} {why = why} {r = Err w} f said is h = let P : EvalEnd → Type 0 = λ e. Made a b (p hears f) (Err e) in subst P (sym said.1) (unheard_at a b p f came why is h)
+
   -- there was no memory before the first use
   pub is_wanting : {A : Type 0} (a : Activity S) (p : Action A) → Made a a p (Err (end.Halt NoMemory))
   is_wanting a p = record { same = refl; made = is_short uses a.who a.uses (p a.state) }
@@ -78,6 +140,21 @@ module _ {S : Type 0} (uses : Relations S) where
   answered {a = a} outcome (Ok b) h = record { same = refl; made = rw h (returns uses a.who a.uses (Ok b, a.state)) }
   answered {A} {a = a} outcome (Err (end.Fault e)) h = let r : Result A Fault = Err e in record { same = refl; made = rw h (returns uses a.who a.uses (r, a.state)) }
   answered {a = a} outcome (Err (end.Halt halt)) h = no_memory a (answers outcome) halt h
+
+  -- an answer is the end
+  pub ended_as : {A : Type 0} {a : Activity S} (outcome : Result A Fault) {r : Result A EvalEnd} → r ≡ end_of outcome → Made a a (answers outcome) r
+  ended_as {A} {a = a} (Ok v) {r} is = let P : Result A EvalEnd → Type 0 = λ x. Made a a (answers (Ok v)) x in subst P (sym is) (given {a = a} v (Ok v) refl)
+  ended_as {A} {a = a} (Err e) {r} is = let P : Result A EvalEnd → Type 0 = λ x. Made {A = A} a a (fails e) x in subst P (sym is) (fails_at_once e)
+
+  -- where an activity works doesn't count, and nor do the arrays that it keeps
+  pub from_same : {A : Type 0} {a c b : Activity S} {p : Action A} {r : Result A EvalEnd} → c.who ≡ a.who → c.uses ≡ a.uses → c.state ≡ a.state → Made c b p r → Made a b p r
+  from_same {a = a} {c = c} {b = b} {p = p} {r = r} w u s h =
+      let P : List ℕ × S × State → Type 0 = λ q. Runs uses.leads uses.refuses q.0 q.1 b.uses (p q.2) (settled r b.state) in
+      record { same = rw (h.same, w) refl; made = subst P (λ i. (w i, u i, s i)) h.made }
+
+  -- the same action, written in another way
+  pub made_as : {A : Type 0} {a b : Activity S} {p q : Action A} {r : Result A EvalEnd} → p ≡ q → Made a b p r → Made a b q r
+  made_as {a = a} {b = b} {r = r} is h = subst (λ (action : Action _). Made a b action r) is h
 
 -- one use
 module _ {S : Type 0} (uses : Relations S) where

@@ -1,5 +1,5 @@
 -- How turns are taken, and that no action gives one back.
-use Rattle.std.proofs.Common.{◌≡◌, ◌≢◌, ◌≤◌, ◌<◌, ◌-◌, ◌+◌, ℕ, ℤ, zero, suc, Bool, true, false, if◌then◌else◌, List, [], ◌∷◌, Option, Some, None, Result, Ok, Err, arith, refl, ap, sym, ◌∙◌}
+use Rattle.std.proofs.Common.{◌≡◌, ◌≢◌, ◌≤◌, ◌<◌, ◌-◌, ◌+◌, ◌==◌, ℕ, ℤ, zero, suc, Bool, true, false, if◌then◌else◌, List, [], ◌∷◌, ◌++◌, Option, Some, None, Result, Ok, Err, arith, refl, ap, sym, ◌∙◌}
 use Rattle.jdata.specs.declared.fault.Fault.{Fault}
 use Rattle.jdata.specs.declared.fault.Fault.TheVariants.{TimeLimit, Stack, Syntax, Nonce}
 use Rattle.jdata.specs.Noun.{int_atom}
@@ -17,12 +17,19 @@ use Rattle.jeval.specs.declared.queue.Queued.TheVariants.{Ready, Named}
 use Rattle.jeval.specs.declared.rows.Deed.{Deed}
 use Rattle.jeval.specs.declared.rows.Deed.TheVariants.{Apply, Make, Assign, Spread, Leave, Refuse}
 use Rattle.jeval.specs.declared.state.State.{State}
-use Rattle.jeval.specs.Action.{Action, asks, gives, fails, answers, going_on, ◌then◌, with_turn, with_left, turn_of}
+use Rattle.jeval.specs.Action.{Action, asks, gives, fails, answers, going_on, hearing, is_time_limit, ◌then◌, ◌hears◌, with_turn, with_left, turn_of}
 use Rattle.jeval.specs.Activity.{read, written}
 use Rattle.jeval.specs.declared.applying.Way.{Way}
 use Rattle.jeval.specs.declared.applying.Way.TheVariants as way
-use Rattle.jeval.specs.Applying.{applied, applied_by, layer, layer_by, ran, ran_if, reference_in, referred, sought_in, verb_replied, way_of}
-use Rattle.jplan.specs.Plans.{Derivation, train}
+use Rattle.std.specs.List.{range_with_len}
+use Rattle.jdata.specs.Noun.{product}
+use Rattle.jframe.specs.Assembly.{assembled}
+use Rattle.jplan.specs.Arguments.{frame, x_of_cell, y_of_cell, x_of_fills, y_of_fills}
+use Rattle.jplan.specs.Several.{alone}
+use Rattle.jplan.specs.Derivations.{Derivation}
+use Rattle.jplan.specs.Modifiers.{derived}
+use Rattle.jeval.specs.Applying.{applied, applied_with, layer, layer_by, nested, ran, reference_in, referred, sought_in, verb_replied, way_of}
+use Rattle.jeval.specs.Cells.{OnCell, at_ranks, cells_done, in_cells, limits, on_cell, on_cells, on_each, on_fills}
 use Rattle.jeval.specs.Execution.{moved_in, moved_value, value_of, plain_reference, assigned, all_written, done, acted}
 use Rattle.jeval.specs.Makings.{term_of, made_of}
 use Rattle.jparse.specs.Parsing.{awaits_target}
@@ -69,6 +76,18 @@ pub keeps_then : {A B : Type 0} (p : Action A) (f : A → Action B) → Keeps p 
 unfolding ◌then◌
 keeps_then p f h k s = all_end_bind (Within s.left) (Within s.left) (p s) (going_on f) (h s) (keeps_on f k s.left)
 
+keeps_hearing : {A B : Type 0} (f : Result A Fault → Action B) → ((a : Result A Fault) → Keeps (f a)) → (n : ℕ) (e : Result A Fault × State) → Within n e → AllEnd (Within n) (hearing f e)
+keeps_hearing f k n (Ok a, t) fewer = all_within (f (Ok a) t) t.left n fewer (k (Ok a) t)
+keeps_hearing f k n (Err e, t) fewer = go (is_time_limit e)
+  where
+    go : (b : Bool) → AllEnd (Within n) (if b then fails e t else f (Err e) t)
+    go true = fewer
+    go false = all_within (f (Err e) t) t.left n fewer (k (Err e) t)
+
+pub keeps_hears : {A B : Type 0} (p : Action A) (f : Result A Fault → Action B) → Keeps p → ((a : Result A Fault) → Keeps (f a)) → Keeps (p hears f)
+unfolding ◌hears◌
+keeps_hears p f h k s = all_end_bind (Within s.left) (Within s.left) (p s) (hearing f) (h s) (keeps_hearing f k s.left)
+
 keeps_return : {A : Type 0} (o : Result A Fault) → Keeps (answers o)
 keeps_return o s = omega arith
 
@@ -108,32 +127,47 @@ keeps_sought_in None name = keeps_then (read name) (λ reply. answers (verb_repl
 keeps_sought_in (Some place) name = keeps_return {A = Term} (Err Nonce)
 
 keeps_ran : (meant : Term → Option Noun → Noun → Action Noun) → ((verb : Term) (x : Option Noun) (y : Noun) → Keeps (meant verb x y)) → (d : Derivation) → Keeps (ran meant d)
-keeps_ran meant k (Return value) = keeps_return (Ok value)
-keeps_ran meant k (Ask a next) = keeps_then (meant a.verb a.x a.y) (λ value. ran meant (next value)) (k a.verb a.x a.y) (λ value. keeps_ran meant k (next value))
-
-keeps_ran_if : (meant : Term → Option Noun → Noun → Action Noun) → ((verb : Term) (x : Option Noun) (y : Noun) → Keeps (meant verb x y)) → (o : Option Derivation) → Keeps (ran_if meant o)
-keeps_ran_if meant k (Some d) = keeps_ran meant k d
-keeps_ran_if meant k None = keeps_return {A = Noun} (Err Nonce)
+keeps_ran meant k (Return answer) = keeps_return answer
+keeps_ran meant k (Ask a next) = keeps_hears (meant a.verb a.x a.y) (λ answer. ran meant (next answer)) (k a.verb a.x a.y) (λ answer. keeps_ran meant k (next answer))
 
 keeps_layer_by : (meant : Term → Option Noun → Noun → Action Noun) → ((verb : Term) (x : Option Noun) (y : Noun) → Keeps (meant verb x y)) → (o : Option Locative) (t : Term) (x : Option Noun) (y : Noun) → Keeps (layer_by meant o t x y)
 keeps_layer_by meant k (Some name) t x y = keeps_then (referred name) (λ verb. meant verb x y) (keeps_sought_in name.place name.name) (λ verb. k verb x y)
-keeps_layer_by meant k None t x y = keeps_ran_if meant k (train t x y)
+keeps_layer_by meant k None t x y = keeps_ran meant k (derived t x y)
 
-keeps_applied_by : (levels : ℕ) (w : Way) (t : Term) (x : Option Noun) (y : Noun) → Keeps (applied_by levels w t x y)
-unfolding applied_by
-keeps_applied_by zero (way.Primitive verb) t x y = keeps_return (primitive verb x y)
-keeps_applied_by (suc levels) (way.Primitive verb) t x y = keeps_return (primitive verb x y)
-keeps_applied_by zero (way.Constant n) t x y = keeps_return (Ok (int_atom n))
-keeps_applied_by (suc levels) (way.Constant n) t x y = keeps_return (Ok (int_atom n))
-keeps_applied_by zero (way.Refused fault) t x y = keeps_return {A = Noun} (Err fault)
-keeps_applied_by (suc levels) (way.Refused fault) t x y = keeps_return {A = Noun} (Err fault)
-keeps_applied_by zero way.Derived t x y = keeps_turn (fails {A = Noun} Stack) (keeps_return {A = Noun} (Err Stack))
-keeps_applied_by (suc levels) way.Derived t x y =
-    keeps_turn (layer (λ verb. applied_by levels (way_of verb) verb) t x y)
-    (keeps_layer_by (λ verb. applied_by levels (way_of verb) verb) (λ verb a b. keeps_applied_by levels (way_of verb) verb a b) (reference_in t) t x y)
+-- the cells of a frame
+keeps_cells_done : (cell : ℕ → Action Noun) → ((i : ℕ) → Keeps (cell i)) → (places : List ℕ) (results : List Noun) → Keeps (cells_done cell places results)
+keeps_cells_done cell k [] results = keeps_return (Ok results)
+keeps_cells_done cell k (i ∷ places) results = keeps_then (cell i) (λ v. cells_done cell places (results ++ v ∷ [])) (k i) (λ v. keeps_cells_done cell k places (results ++ v ∷ []))
+
+keeps_in_cells : (one : OnCell) → ((x : Option Noun) (y : Noun) → Keeps (one x y)) → (u v : Option ℤ) (x : Option Noun) (y : Noun) → Keeps (in_cells one u v x y)
+keeps_in_cells one k u v x y = keeps_then (answers (frame u v x y)) (on_cells one u v x y) (keeps_return (frame u v x y)) (λ whole. go whole (product whole == 0))
+  where
+    go : (whole : List ℕ) (b : Bool) → Keeps (if b then on_fills one u v x y whole else (on_each one u v x y whole then (λ results. answers (assembled whole results))))
+    go whole true = keeps_hears (one (x_of_fills u x) (y_of_fills v y)) (λ answer. answers (alone whole answer)) (k (x_of_fills u x) (y_of_fills v y)) (λ answer. keeps_return (alone whole answer))
+    go whole false = keeps_then (on_each one u v x y whole) (λ results. answers (assembled whole results))
+        (keeps_cells_done (on_cell one u v x y whole) (λ i. k (x_of_cell u x whole i) (y_of_cell v y whole i)) (range_with_len 0 (product whole)) [])
+        (λ results. keeps_return (assembled whole results))
+
+keeps_at_ranks : (one : OnCell) → ((x : Option Noun) (y : Noun) → Keeps (one x y)) → (limits : Option ℤ × Option ℤ) (x : Option Noun) (y : Noun) → Keeps (at_ranks one limits x y)
+keeps_at_ranks one k (None, None) x y = k x y
+keeps_at_ranks one k (Some u, v) x y = keeps_in_cells one k (Some u) v x y
+keeps_at_ranks one k (None, Some v) x y = keeps_in_cells one k None (Some v) x y
+
+keeps_applied_with : (one : Term → Option Noun → Noun → Action Noun) → ((t : Term) (x : Option Noun) (y : Noun) → Keeps (one t x y)) → (w : Way) (t : Term) (x : Option Noun) (y : Noun) → Keeps (applied_with one w t x y)
+keeps_applied_with one k (way.Primitive verb) t x y = keeps_return (primitive verb x y)
+keeps_applied_with one k (way.Constant n) t x y = keeps_return (Ok (int_atom n))
+keeps_applied_with one k (way.Refused fault) t x y = keeps_return {A = Noun} (Err fault)
+keeps_applied_with one k way.Derived t x y = keeps_at_ranks (one t) (k t) (limits t x) x y
+
+keeps_nested : (levels : ℕ) (t : Term) (x : Option Noun) (y : Noun) → Keeps (nested levels t x y)
+unfolding nested
+keeps_nested zero t x y = keeps_turn (fails {A = Noun} Stack) (keeps_return {A = Noun} (Err Stack))
+keeps_nested (suc levels) t x y =
+    keeps_turn (layer (λ verb. applied_with (nested levels) (way_of verb) verb) t x y)
+    (keeps_layer_by (λ verb. applied_with (nested levels) (way_of verb) verb) (λ verb a b. keeps_applied_with (nested levels) (keeps_nested levels) (way_of verb) verb a b) (reference_in t) t x y)
 
 pub keeps_applied : (levels : ℕ) (verb : Term) (x : Option Noun) (y : Noun) → Keeps (applied levels verb x y)
-keeps_applied levels verb x y = keeps_applied_by levels (way_of verb) verb x y
+keeps_applied levels verb x y = keeps_applied_with (nested levels) (keeps_nested levels) (way_of verb) verb x y
 
 keeps_assigned : (name : List ℕ) (o : Option Term) (value : Part) (rest : List Part) → Keeps (assigned name o value rest)
 keeps_assigned name (Some stands) value rest = keeps_then (written name stands) (λ reply. gives (value ∷ rest)) (keeps_written name stands) (λ reply. keeps_return (Ok (value ∷ rest)))
@@ -181,67 +215,45 @@ unfolding acted ◌then◌
 late_row levels row parts f s h = ap (λ rest. rest >>= going_on f) (late_turn (done levels (deed_of row parts)) s h)
 
 -- an application, by how the term is applied
-applies_primitive_by : (levels : ℕ) (verb : Primitive) (t : Term) (x : Option Noun) (y : Noun) (s : State) → applied_by levels (way.Primitive verb) t x y s ≡ answers (primitive verb x y) s
-unfolding applied_by
-applies_primitive_by zero verb t x y s = refl
-applies_primitive_by (suc levels) verb t x y s = refl
-
 pub applies_primitive : (levels : ℕ) (t : Term) (verb : Primitive) (x : Option Noun) (y : Noun) (s : State) → way_of t ≡ way.Primitive verb → applied levels t x y s ≡ answers (primitive verb x y) s
-applies_primitive levels t verb x y s h = ap (λ w. applied_by levels w t x y s) h ∙ applies_primitive_by levels verb t x y s
-
-applies_constant_by : (levels : ℕ) (n : ℤ) (t : Term) (x : Option Noun) (y : Noun) (s : State) → applied_by levels (way.Constant n) t x y s ≡ gives (int_atom n) s
-unfolding applied_by
-applies_constant_by zero n t x y s = refl
-applies_constant_by (suc levels) n t x y s = refl
+applies_primitive levels t verb x y s h = ap (λ w. applied_with (nested levels) w t x y s) h
 
 pub applies_constant : (levels : ℕ) (t : Term) (n : ℤ) (x : Option Noun) (y : Noun) (s : State) → way_of t ≡ way.Constant n → applied levels t x y s ≡ gives (int_atom n) s
-applies_constant levels t n x y s h = ap (λ w. applied_by levels w t x y s) h ∙ applies_constant_by levels n t x y s
-
-applies_refused_by : (levels : ℕ) (why : Fault) (t : Term) (x : Option Noun) (y : Noun) (s : State) → applied_by levels (way.Refused why) t x y s ≡ fails why s
-unfolding applied_by
-applies_refused_by zero why t x y s = refl
-applies_refused_by (suc levels) why t x y s = refl
+applies_constant levels t n x y s h = ap (λ w. applied_with (nested levels) w t x y s) h
 
 pub applies_refused : (levels : ℕ) (t : Term) (why : Fault) (x : Option Noun) (y : Noun) (s : State) → way_of t ≡ way.Refused why → applied levels t x y s ≡ fails why s
-applies_refused levels t why x y s h = ap (λ w. applied_by levels w t x y s) h ∙ applies_refused_by levels why t x y s
+applies_refused levels t why x y s h = ap (λ w. applied_with (nested levels) w t x y s) h
+
+pub applies_derived : (levels : ℕ) (t : Term) (x : Option Noun) (y : Noun) (s : State) → way_of t ≡ way.Derived → applied levels t x y s ≡ at_ranks (nested levels t) (limits t x) x y s
+applies_derived levels t x y s h = ap (λ w. applied_with (nested levels) w t x y s) h
 
 -- with a turn and a level: without a turn, without a level, and with both
-late_by : (levels : ℕ) (t : Term) (x : Option Noun) (y : Noun) (s : State) → s.left ≡ 0 → applied_by levels way.Derived t x y s ≡ fails TimeLimit s
-unfolding applied_by
-late_by zero t x y s h = late_turn (fails Stack) s h
-late_by (suc levels) t x y s h = late_turn (layer (λ verb. applied_by levels (way_of verb) verb) t x y) s h
+pub nested_is_late : (levels : ℕ) (t : Term) (x : Option Noun) (y : Noun) (s : State) → s.left ≡ 0 → nested levels t x y s ≡ fails TimeLimit s
+unfolding nested
+nested_is_late zero t x y s h = late_turn (fails Stack) s h
+nested_is_late (suc levels) t x y s h = late_turn (layer (λ verb. applied_with (nested levels) (way_of verb) verb) t x y) s h
 
-pub derived_is_late : (levels : ℕ) (t : Term) (x : Option Noun) (y : Noun) (s : State) → way_of t ≡ way.Derived → s.left ≡ 0 → applied levels t x y s ≡ fails TimeLimit s
-derived_is_late levels t x y s is h = ap (λ w. applied_by levels w t x y s) is ∙ late_by levels t x y s h
+pub nested_is_deep : (levels : ℕ) (u : Term) (x : Option Noun) (y : Noun) (s t : State) → levels ≡ 0 → s ≡ with_left (t.left + 1) t → nested levels u x y s ≡ fails Stack t
+unfolding nested
+nested_is_deep zero u x y s t none h = on_time (fails Stack) s t h
+nested_is_deep (suc levels) u x y s t none h = cc
 
-deep_by : (levels : ℕ) (u : Term) (x : Option Noun) (y : Noun) (s t : State) → levels ≡ 0 → s ≡ with_left (t.left + 1) t → applied_by levels way.Derived u x y s ≡ fails Stack t
-unfolding applied_by
-deep_by zero u x y s t none h = on_time (fails Stack) s t h
-deep_by (suc levels) u x y s t none h = cc
-
-pub derived_is_deep : (levels : ℕ) (u : Term) (x : Option Noun) (y : Noun) (s t : State) → way_of u ≡ way.Derived → levels ≡ 0 → s ≡ with_left (t.left + 1) t → applied levels u x y s ≡ fails Stack t
-derived_is_deep levels u x y s t is none h = ap (λ w. applied_by levels w u x y s) is ∙ deep_by levels u x y s t none h
-
-down_by : (levels : ℕ) (u : Term) (x : Option Noun) (y : Noun) (s t : State) → levels ≢ 0 → s ≡ with_left (t.left + 1) t
-    → applied_by levels way.Derived u x y s ≡ layer (applied (levels - 1)) u x y t
-unfolding applied_by
-down_by zero u x y s t some h = absurd (some refl)
-down_by (suc levels) u x y s t some h =
+pub nested_goes_down : (levels : ℕ) (u : Term) (x : Option Noun) (y : Noun) (s t : State) → levels ≢ 0 → s ≡ with_left (t.left + 1) t
+    → nested levels u x y s ≡ layer (applied (levels - 1)) u x y t
+unfolding nested
+nested_goes_down zero u x y s t some h = absurd (some refl)
+nested_goes_down (suc levels) u x y s t some h =
     let down : levels ≡ suc levels - 1 = omega arith in
-    on_time (layer (λ verb. applied_by levels (way_of verb) verb) u x y) s t h ∙ ap (λ n. layer (applied n) u x y t) down
-
-pub derived_goes_down : (levels : ℕ) (u : Term) (x : Option Noun) (y : Noun) (s t : State) → way_of u ≡ way.Derived → levels ≢ 0 → s ≡ with_left (t.left + 1) t
-    → applied levels u x y s ≡ layer (applied (levels - 1)) u x y t
-derived_goes_down levels u x y s t is some h = ap (λ w. applied_by levels w u x y s) is ∙ down_by levels u x y s t some h
+    on_time (layer (λ verb. applied_with (nested levels) (way_of verb) verb) u x y) s t h ∙ ap (λ n. layer (applied n) u x y t) down
 
 -- what is applied one level further down
 pub goes_to_reference : (meant : Term → Option Noun → Noun → Action Noun) (t : Term) (name : Locative) (x : Option Noun) (y : Noun) (s : State) → Some name ≡ reference_in t
     → layer meant t x y s ≡ (referred name then (λ verb. meant verb x y)) s
 goes_to_reference meant t name x y s h = sym (ap (λ o. layer_by meant o t x y s) h)
 
-pub goes_to_train : (meant : Term → Option Noun → Noun → Action Noun) (t : Term) (o : Option Derivation) (x : Option Noun) (y : Noun) (s : State) → None ≡ reference_in t → o ≡ train t x y
-    → layer meant t x y s ≡ ran_if meant o s
-goes_to_train meant t o x y s h is = sym (ap (λ d. ran_if meant d s) is ∙ ap (λ r. layer_by meant r t x y s) h)
+pub goes_to_derived : (meant : Term → Option Noun → Noun → Action Noun) (t : Term) (d : Derivation) (x : Option Noun) (y : Noun) (s : State) → None ≡ reference_in t → d ≡ derived t x y
+    → layer meant t x y s ≡ ran meant d s
+goes_to_derived meant t d x y s h is = sym (ap (λ e. ran meant e s) is ∙ ap (λ r. layer_by meant r t x y s) h)
 
 -- a row, without a turn and with one
 pub acted_late : (levels row : ℕ) (parts : List Part) (s : State) → s.left ≡ 0 → acted levels row parts s ≡ fails TimeLimit s

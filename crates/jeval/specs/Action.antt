@@ -1,7 +1,7 @@
 -- The copying interpreter does its work by actions: from the state of an activity an action asks its uses, takes the
 -- replies, and ends with a value or a fault and with the state that is then the activity's. This file has the words
 -- that the interpreter's definitions are written in.
-use Rattle.std.specs.Prelude.{ℕ, zero, suc, Result, Ok, Err}
+use Rattle.std.specs.Prelude.{ℕ, zero, suc, Bool, true, false, if◌then◌else◌, Result, Ok, Err}
 use Rattle.jdata.specs.declared.fault.Fault.{Fault}
 use Rattle.jdata.specs.declared.fault.Fault.TheVariants.{TimeLimit}
 use Rattle.juses.specs.Program.{Program, Return, Ask, ◌>>=◌}
@@ -39,6 +39,19 @@ going_on next (Err fault, s) = fails fault s
 infixl 10 ◌then◌
 unfoldable pub ◌then◌ : {A B : Type 0} → Action A → (A → Action B) → Action B
 (first then next) s = first s >>= going_on next
+
+abbrev pub is_time_limit : Fault → Bool
+is_time_limit TimeLimit = true
+is_time_limit other = false
+
+-- goes on with the answer, whether it is a value or a fault. TimeLimit is the end: nothing catches it.
+abbrev pub hearing : {A B : Type 0} → (Result A Fault → Action B) → Result A Fault × State → Rest B
+hearing next (Ok a, s) = next (Ok a) s
+hearing next (Err fault, s) = if is_time_limit fault then fails fault s else next (Err fault) s
+
+infixl 10 ◌hears◌
+unfoldable pub ◌hears◌ : {A B : Type 0} → Action A → (Result A Fault → Action B) → Action B
+(first hears next) s = first s >>= hearing next
 
 abbrev pub with_left : ℕ → State → State
 with_left turns s = record s { left = turns }

@@ -13,9 +13,11 @@ use Rattle.juses.specs.declared.uses.Reply.TheVariants.{Named}
 use Rattle.jeval.specs.declared.applying.Way.{Way}
 use Rattle.jeval.specs.declared.applying.Way.TheVariants as way
 use Rattle.juses.specs.Program.{Return, Ask}
-use Rattle.jeval.specs.Action.{Action, gives, fails, answers, ◌then◌, with_turn}
+use Rattle.jeval.specs.Action.{Action, gives, fails, answers, ◌then◌, ◌hears◌, with_turn}
 use Rattle.jeval.specs.Activity.{read}
-use Rattle.jplan.specs.Plans.{Derivation, train}
+use Rattle.jeval.specs.Cells.{at_ranks, limits}
+use Rattle.jplan.specs.Derivations.{Derivation}
+use Rattle.jplan.specs.Modifiers.{derived}
 use Rattle.jeval.specs.Verbs.{primitive}
 
 -- how many applications of verbs that aren't primitive may be nested
@@ -57,36 +59,35 @@ way_of other = way.Derived
 abbrev pub Part : Type 0
 Part = Term → Option Noun → Noun → Action Noun
 
--- the applications that a derivation asks for, in their order, up to the first fault
+-- the applications that a derivation asks for, in their order
 abbrev pub ran : Part → Derivation → Action Noun
-ran part (Return value) = gives value
-ran part (Ask a next) = part a.verb a.x a.y then (λ value. ran part (next value))
-
--- an application isn't built where there is no derivation: that of a modifier with its operands
-abbrev pub ran_if : Part → Option Derivation → Action Noun
-ran_if part (Some derivation) = ran part derivation
-ran_if part None = fails Nonce
+ran part (Return answer) = answers answer
+ran part (Ask a next) = part a.verb a.x a.y hears (λ answer. ran part (next answer))
 
 abbrev pub reference_in : Term → Option Locative
 reference_in (term.Name name) = Some name
 reference_in other = None
 
--- a reference is what it stands for; a train does what it is made of
+-- a reference is what it stands for; another verb does what it is made of
 abbrev pub layer_by : Part → Option Locative → Term → Option Noun → Noun → Action Noun
 layer_by part (Some name) t x y = referred name then (λ verb. part verb x y)
-layer_by part None t x y = ran_if part (train t x y)
+layer_by part None t x y = ran part (derived t x y)
 
 abbrev pub layer : Part → Term → Option Noun → Noun → Action Noun
 layer part t x y = layer_by part (reference_in t) t x y
 
--- a verb on its arguments, with so many levels left. A primitive or constant verb is applied at once; else the
--- application takes a turn and a level.
-unfoldable pub applied_by : ℕ → Way → Term → Option Noun → Noun → Action Noun
-applied_by levels (way.Primitive verb) t x y = answers (primitive verb x y)
-applied_by levels (way.Constant n) t x y = gives (int_atom n)
-applied_by levels (way.Refused fault) t x y = fails fault
-applied_by zero way.Derived t x y = with_turn (fails Stack)
-applied_by (suc levels) way.Derived t x y = with_turn (layer (λ verb. applied_by levels (way_of verb) verb) t x y)
+-- how a term is applied, given how a derived verb is applied to one cell. A primitive or constant verb is applied at once.
+abbrev pub applied_with : Part → Way → Term → Option Noun → Noun → Action Noun
+applied_with one (way.Primitive verb) t x y = answers (primitive verb x y)
+applied_with one (way.Constant n) t x y = gives (int_atom n)
+applied_with one (way.Refused fault) t x y = fails fault
+applied_with one way.Derived t x y = at_ranks (one t) (limits t x) x y
 
+-- a derived verb on one cell, with so many levels left: it takes a turn and a level
+unfoldable pub nested : ℕ → Part
+nested zero t x y = with_turn (fails Stack)
+nested (suc levels) t x y = with_turn (layer (λ verb. applied_with (nested levels) (way_of verb) verb) t x y)
+
+-- a verb on its arguments, with so many levels left
 abbrev pub applied : ℕ → Part
-applied levels verb x y = applied_by levels (way_of verb) verb x y
+applied levels verb x y = applied_with (nested levels) (way_of verb) verb x y

@@ -2,6 +2,7 @@ pub mod Action
 pub mod Activity
 pub mod Made
 pub mod Verbs
+pub mod Cells
 pub mod Applying
 pub mod Makings
 pub mod Targets

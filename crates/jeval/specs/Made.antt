@@ -1,6 +1,6 @@
 -- What the answer of a call says of what passed between two states of an activity: it did what the copying interpreter
 -- does there, and this came of it. All that the evaluator's contracts mean by `Makes` and `Tells` stands here.
-use Rattle.std.specs.Prelude.{◌≡◌, ℕ, List, Result, Ok, Err}
+use Rattle.std.specs.Prelude.{◌≡◌, ℕ, if◌then◌else◌, List, Result, Ok, Err}
 use Rattle.jdata.specs.declared.fault.Fault.{Fault}
 use Rattle.jarray.specs.Placed.{Placed}
 use Rattle.jdata.specs.declared.noun.Noun.{Noun}
@@ -19,7 +19,7 @@ use Rattle.jeval.specs.declared.activity.Activity.{Activity}
 use Rattle.jeval.specs.declared.end.EvalEnd.{EvalEnd}
 use Rattle.jeval.specs.declared.end.EvalEnd.TheVariants as end
 use Rattle.jeval.specs.declared.state.State.{State}
-use Rattle.jeval.specs.Action.{Action}
+use Rattle.jeval.specs.Action.{Action, is_time_limit}
 
 -- an answer with the state after it: a value, a fault, or a halt
 abbrev pub settled : {A : Type 0} → Result A EvalEnd → State → Result (Result A Fault × State) Halt
@@ -31,6 +31,17 @@ settled (Err (end.Halt halt)) s = Err halt
 abbrev pub beside : {A : Type 0} → Result A Halt → State → Result (A × State) Halt
 beside (Ok a) s = Ok (a, s)
 beside (Err halt) s = Err halt
+
+-- an answer as the end of an evaluation
+abbrev pub end_of : {A : Type 0} → Result A Fault → Result A EvalEnd
+end_of (Ok a) = Ok a
+end_of (Err fault) = Err (end.Fault fault)
+
+-- the answer that is heard: a value, or a fault but TimeLimit
+abbrev pub heard_of : {A : Type 0} → Result A EvalEnd → Result (Result A Fault) EvalEnd
+heard_of (Ok a) = Ok (Ok a)
+heard_of (Err (end.Fault fault)) = if is_time_limit fault then Err (end.Fault fault) else Ok (Err fault)
+heard_of (Err (end.Halt halt)) = Err (end.Halt halt)
 
 -- between the two states the activity did the action, and this came of it
 pub record Makes {S A : Type 0} (leads : S → Passed → S → Type 0) (refuses : S → List ℕ → Use → Halt → Type 0) (before after : Activity S) (action : Action A) (result : Result A EvalEnd) : Type 0 where

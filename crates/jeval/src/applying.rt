@@ -1,17 +1,22 @@
 //! The application of verbs.
-ghost use Rattle.std.specs.Prelude.{◌≡◌, option_map};
+ghost use Rattle.std.specs.Prelude.{◌≡◌, length, option_map, IfOk};
+ghost use Rattle.jdata.specs.Noun.{product};
 ghost use Rattle.jeval.specs.Applying as applying;
+ghost use Rattle.jeval.specs.Cells as celled;
+ghost use Rattle.jplan.specs.Arguments.{x_in};
 ghost use Rattle.jplan.specs.Plans as plans;
 ghost use Rattle.juses.specs.Events.{RunsWhole};
 ghost use Rattle.jeval.specs.Made.{Makes, settled};
 
 use crate::activity::Activity;
-use crate::end::{EvalEnd, NO_MEMORY};
+use crate::cells::{alone, finished, parted};
+use crate::end::{EvalEnd, NO_MEMORY, ended, heard};
 use crate::verbs::primitive;
 use jarray::Array;
 use jdata::{Fault, Name, NoMemory, Primitive};
-use jplan::{Plan, train};
-use jterm::{Datum, Locative, Term};
+use jframe::Results;
+use jplan::{Arguments, Plan, derived};
+use jterm::{Datum, Locative, Term, ranks};
 use juses::{Reply, Uses};
 
 /// How many applications of verbs that aren't primitive may be nested.
@@ -64,6 +69,17 @@ fn verb_replied(reply: Reply) -> Result<Term, Fault>
     }
 }
 
+// The ranks at which a verb takes its arguments.
+fn limits(verb: &Term, x: &Option<Datum>) -> (Option<i64>, Option<i64>)
+    ensures { result ≡ celled.limits verb.now x.now }
+{
+    let [monad, left, right] = ranks(verb);
+    match x {
+        Some(_) => (left, right),
+        None => (None, monad),
+    }
+}
+
 impl<U: Uses> Activity<U> {
     // The verb that a name has as its value now.
     fn sought(&mut self, name: &Name) -> Result<Term, EvalEnd>
@@ -94,16 +110,23 @@ impl<U: Uses> Activity<U> {
         let mut at = plan;
         loop {
             match at {
-                Plan::Done(value) => return Ok(value),
+                Plan::Done(answer) => return ended(answer),
+                Plan::Undo { verb, y } => {
+                    let answer = heard(self.apply(levels, &verb, None, y))?;
+                    return ended(answer);
+                }
                 Plan::Apply { verb, x, y, after } => {
-                    let value = self.apply(levels, verb, x, y)?;
-                    at = after.resume(value);
+                    let answer = heard(self.apply(levels, verb, x, y))?;
+                    let Ok(next) = after.resume(self.alloc, &mut self.room, answer) else {
+                        return Err(NO_MEMORY);
+                    };
+                    at = next;
                 }
             }
         }
     }
 
-    // What a reference stands for, or what a train is made of, with so many levels for it.
+    // What a reference stands for, or what a derived verb is made of, with so many levels for it.
     #[cycle(apply)]
     fn descend(
         &mut self,
@@ -119,12 +142,103 @@ impl<U: Uses> Activity<U> {
                 let verb = self.referred(reference)?;
                 self.apply(levels, &verb, x, y)
             }
-            None => match train(self.alloc, &self.room, verb, x, y) {
-                Ok(Some(plan)) => self.follow(levels, plan),
-                // a modifier with its operands isn't built
-                Ok(None) => Err(EvalEnd::Fault(Fault::Nonce)),
+            None => match derived(self.alloc, &mut self.room, verb, x, y) {
+                Ok(plan) => self.follow(levels, plan),
                 Err(NoMemory) => Err(NO_MEMORY),
             },
+        }
+    }
+
+    // A derived verb on one cell, with so many levels left.
+    #[cycle(apply)]
+    fn nest(
+        &mut self,
+        levels: u64,
+        verb: &Term,
+        x: Option<Datum>,
+        y: Datum,
+    ) -> Result<Datum, EvalEnd>
+        ensures { Makes U.leads U.refuses self.old self.new (applying.nested levels verb.now x y) result }
+    {
+        if !self.state.take_turn() {
+            return Err(EvalEnd::Fault(Fault::TimeLimit));
+        }
+        if levels == 0 {
+            return Err(EvalEnd::Fault(Fault::Stack));
+        }
+        self.descend(levels - 1, verb, x, y)
+    }
+
+    // Where the frame has a 0, the verb is applied once, to cells of fills.
+    #[cycle(apply)]
+    fn on_fills(&mut self, levels: u64, verb: &Term, cells: &Arguments) -> Result<Datum, EvalEnd>
+        requires { product cells.now.frame ≡ 0 }
+        ensures { Makes U.leads U.refuses self.old self.new (celled.on_fills (applying.nested levels verb.now) cells.now.left cells.now.right (x_in cells.now.x) cells.now.y.value cells.now.frame) result }
+    {
+        let Ok((x, y)) = cells.fills(self.alloc, &self.room) else {
+            return Err(NO_MEMORY);
+        };
+        let answer = heard(self.nest(levels, verb, x, y))?;
+        alone(self.alloc, &mut self.room, cells.frame(), answer)
+    }
+
+    // The verb on each cell, up to the first fault.
+    #[cycle(apply)]
+    fn each_cell(&mut self, levels: u64, verb: &Term, cells: &Arguments) -> Result<Results, EvalEnd>
+        ensures made { Makes U.leads U.refuses self.old self.new (celled.on_each (applying.nested levels verb.now) cells.now.left cells.now.right (x_in cells.now.x) cells.now.y.value cells.now.frame) result }
+        ensures long { IfOk result (λ results. length results ≡ product cells.now.frame) }
+    {
+        // a frame has no more cells than the limit says
+        let _axes = cells.frame().axes();
+        let mut results = Results::new(self.alloc);
+        for at in 0..cells.frame().product() {
+            let Ok((x, y)) = cells.get(self.alloc, &self.room, at) else {
+                return Err(NO_MEMORY);
+            };
+            let value = self.nest(levels, verb, x, y)?;
+            if results.push(&mut self.room, value.into_array()).is_err() {
+                return Err(NO_MEMORY);
+            }
+        }
+        Ok(results)
+    }
+
+    // A derived verb on its arguments in cells of these ranks.
+    #[cycle(apply)]
+    fn in_cells(
+        &mut self,
+        levels: u64,
+        verb: &Term,
+        left: Option<i64>,
+        right: Option<i64>,
+        x: Option<Datum>,
+        y: Datum,
+    ) -> Result<Datum, EvalEnd>
+        ensures { Makes U.leads U.refuses self.old self.new (celled.in_cells (applying.nested levels verb.now) left right x y) result }
+    {
+        let cells = parted(self.alloc, &self.room, left, right, x, y)?;
+        if cells.frame().product() == 0 {
+            return self.on_fills(levels, verb, &cells);
+        }
+        let results = self.each_cell(levels, verb, &cells)?;
+        finished(results, cells.frame())
+    }
+
+    // A derived verb at its ranks.
+    #[cycle(apply)]
+    fn at_ranks(
+        &mut self,
+        levels: u64,
+        verb: &Term,
+        x: Option<Datum>,
+        y: Datum,
+    ) -> Result<Datum, EvalEnd>
+        ensures { Makes U.leads U.refuses self.old self.new (celled.at_ranks (applying.nested levels verb.now) (celled.limits verb.now x) x y) result }
+    {
+        match limits(verb, &x) {
+            (None, None) => self.nest(levels, verb, x, y),
+            (Some(left), right) => self.in_cells(levels, verb, Some(left), right, x, y),
+            (None, Some(right)) => self.in_cells(levels, verb, None, Some(right), x, y),
         }
     }
 
@@ -143,15 +257,7 @@ impl<U: Uses> Activity<U> {
             Way::Primitive(verb) => primitive(self.alloc, &mut self.room, verb, x, y),
             Way::Constant(number) => Ok(Datum::of(Array::atom(number))),
             Way::Refused(fault) => Err(EvalEnd::Fault(fault)),
-            Way::Derived => {
-                if !self.state.take_turn() {
-                    return Err(EvalEnd::Fault(Fault::TimeLimit));
-                }
-                if levels == 0 {
-                    return Err(EvalEnd::Fault(Fault::Stack));
-                }
-                self.descend(levels - 1, verb, x, y)
-            }
+            Way::Derived => self.at_ranks(levels, verb, x, y),
         }
     }
 

@@ -4,6 +4,7 @@
 mod activity;
 mod applying;
 mod building;
+mod cells;
 mod constants;
 mod end;
 mod eval;
@@ -24,6 +25,3 @@ pub use eval::Eval;
 pub use laws::execution_law;
 pub use sentence::{LINE_LIMIT, Shown};
 pub use state::State;
-
-#[cfg(test)]
-mod tests;

@@ -7,6 +7,7 @@ ghost use Rattle.jeval.specs.declared.queue.Queued.TheVariants.{Named as named};
 use crate::constants::{all_integers, integers, number, numbers, text_noun};
 use crate::operators::{adverb_of, conj_of};
 use crate::stack::Stack;
+use jarray::Array;
 use jdata::{Name, NoMemory, Primitive};
 use jterm::{Datum, Part, RankList, Term};
 use jwords::{Word, WordKind};
@@ -162,6 +163,10 @@ fn noun_item(noun: Result<Option<Datum>, NoMemory>) -> Result<Option<Queued>, No
 fn numbers_item(alloc: Global, all: Vec<Option<i64>>) -> Result<Option<Queued>, NoMemory>
     ensures { IfOk result (λ item. item ≡ queues.numbers_item (Some all.items)) }
 {
+    // one number takes no further memory
+    if let [Some(number)] = all.as_slice() {
+        return Ok(noun_part(Some(Datum::of(Array::atom(*number)))));
+    }
     match all_integers(alloc, &all) {
         Ok(Some(numbers)) => noun_item(integers(alloc, numbers)),
         Ok(None) => Ok(Some(Queued::Ready(Part::Ranks(RankList::of(all))))),

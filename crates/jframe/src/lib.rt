@@ -4,8 +4,6 @@
 mod assembly;
 mod common;
 mod items;
-#[cfg(test)]
-mod items_tests;
 mod joining;
 mod kinds;
 mod padding;
@@ -14,13 +12,11 @@ mod parted;
 mod parting;
 mod ranks;
 mod results;
-#[cfg(test)]
-mod tests;
 
 pub use assembly::assemble;
 pub use items::join_arrays;
 pub use kinds::common_kind;
-pub use pairs::{WholeDyad, at_ranks};
+pub use pairs::{WholeDyad, at_ranks, repeats};
 pub use parted::Cells;
 pub use parting::{cells, fill_cell};
 pub use ranks::{WholeMonad, at_rank};

@@ -142,8 +142,8 @@ fn each_pair<V: WholeDyad>(
     Ok(results)
 }
 
-/// How many cells of the whole frame use the same cell of a part of it.
-fn repeats(part: &Shape, whole: &Shape) -> u64
+/// How many cells of the whole frame use the same cell of a part of it. No memory.
+pub fn repeats(part: &Shape, whole: &Shape) -> u64
     requires { IsPrefix part.now whole.now }
     ensures { result ≡ repeated part.now whole.now }
 {

@@ -6,6 +6,3 @@ mod table;
 
 pub use class::Class;
 pub use table::{Act, Group, awaits_target, step};
-
-#[cfg(test)]
-mod tests;

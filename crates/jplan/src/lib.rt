@@ -1,9 +1,17 @@
-//! Derived verbs as plans: what is applied next, and what becomes of its value.
+//! Derived verbs as plans: what is applied next, and what becomes of its answer.
 #![tactic(auto)]
 
+mod arguments;
+mod copies;
+mod counted;
+mod modifiers;
+mod parts;
+mod pieces;
 mod plan;
+mod series;
+mod several;
+mod trains;
 
-pub use plan::{After, Plan, train};
-
-#[cfg(test)]
-mod tests;
+pub use arguments::Arguments;
+pub use modifiers::derived;
+pub use plan::{After, Plan};

@@ -10,6 +10,3 @@ mod verbs;
 
 pub use opening::opens;
 pub use verbs::{dyad, monad};
-
-#[cfg(test)]
-mod tests;

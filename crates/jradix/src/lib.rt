@@ -9,6 +9,3 @@ mod value;
 pub use bits::binary;
 pub use taking::digits;
 pub use value::{base, base_two};
-
-#[cfg(test)]
-mod tests;

@@ -8,6 +8,7 @@ ghost use Rattle.jdata.specs.Noun.{noun};
 ghost use Rattle.jdata.specs.declared.noun.Kind.TheVariants as sort;
 ghost use Rattle.jdata.specs.declared.noun.Atom.TheVariants as atom;
 ghost use Rattle.jarray.specs.Placed.{Gives, noun_in};
+ghost use Rattle.jselect.specs.Items.{item_count};
 ghost use Rattle.jsearch.specs.Finding.{truth as truth_of};
 ghost use Rattle.jsearch.specs.Finding as meant;
 ghost use Rattle.jsearch.specs.Listed.{or_trouble, whole, cell_count};
@@ -85,6 +86,14 @@ pub fn sieve(alloc: Global, room: &mut Room, y: Array) -> Result<Array, Trouble>
     let flags = sieve_of(alloc, room, &y);
     y.done(room);
     given(flags)
+}
+
+/// For each item of `y` the first place of an item that matches it.
+pub fn first_places(alloc: Global, room: &Room, y: &Array) -> Result<Vec<usize>, NoMemory>
+    ensures { IfOk result (λ v. v.items ≡ map (λ i. meant.first_place (meant.items y.now.noun) (meant.item y.now.noun i)) (range_with_len 0 (item_count y.now.noun))) }
+{
+    let items = items_of(y, room);
+    first_places_in(alloc, items, items)
 }
 
 /// Whether the two match. No memory.

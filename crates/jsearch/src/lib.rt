@@ -18,14 +18,9 @@ mod stepping;
 
 pub use classes::classify;
 pub use counting::integers;
-pub use finding::{index_of, last_index_of, less, matched, member, nub, sieve};
+pub use finding::{first_places, index_of, last_index_of, less, matched, member, nub, sieve};
 pub use grading::{grade_down, grade_up, sort_down, sort_up};
 pub use intervals::interval_index;
 pub use laws::{each_array_has_one_grade, equal_items_match};
 pub use repeating::indices;
 pub use stepping::steps;
-
-#[cfg(test)]
-mod order_tests;
-#[cfg(test)]
-mod tests;

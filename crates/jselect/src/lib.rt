@@ -17,6 +17,3 @@ pub use fetching::fetch;
 pub use listing::items_named;
 pub use numbers::{are_counts, count_at, served, total_of};
 pub use whole::limited;
-
-#[cfg(test)]
-mod tests;

@@ -22,6 +22,3 @@ pub use shaping::{itemize, ravel, ravel_items, reshape, shape_of};
 pub use sides::{cap, cap_dyad, left, right, same};
 pub use taking::{behead, curtail, drop, rotate, take};
 pub use transposing::transpose;
-
-#[cfg(test)]
-mod tests;

@@ -9,6 +9,7 @@ mod obverses;
 mod part;
 mod ranking;
 mod speech;
+mod stack;
 mod term;
 mod words;
 
@@ -19,8 +20,6 @@ pub use levels::MOST_LEVELS;
 pub use part::Part;
 pub use ranking::ranks;
 pub use speech::Speech;
+pub use stack::Stack;
 pub use term::{Locative, LocativeList, RankList, Term, copy_name};
 pub use words::{Adv, Con};
-
-#[cfg(test)]
-mod tests;

@@ -18,6 +18,3 @@ pub use laws::{
 };
 pub use solo::Solo;
 pub use uses::{Cause, Ended, Entry, Halt, MutexId, Reply, Use, Uses, Waiting, Why, Work};
-
-#[cfg(test)]
-mod tests;

@@ -1,0 +1,3 @@
+mod Parting
+pub mod Going
+mod Whole

@@ -1,0 +1,4 @@
+pub mod Divisions
+pub mod Fixes
+pub mod Identities
+pub mod Undoing

@@ -1,0 +1,5 @@
+//! Uses and the desk, worked by hand from their definitions.
+#![tactic(auto)]
+
+#[cfg(test)]
+mod uses;
