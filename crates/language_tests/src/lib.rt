@@ -1,7 +1,5 @@
-//! Plans and sentences, worked by hand from their definitions.
+//! Sentences, worked by hand from their definitions.
 #![tactic(auto)]
 
-#[cfg(test)]
-mod plans;
 #[cfg(test)]
 mod sentences;
