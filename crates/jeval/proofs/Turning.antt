@@ -28,7 +28,7 @@ use Rattle.jplan.specs.Arguments.{frame, x_of_cell, y_of_cell, x_of_fills, y_of_
 use Rattle.jplan.specs.Several.{alone}
 use Rattle.jplan.specs.Derivations.{Derivation}
 use Rattle.jplan.specs.Modifiers.{derived}
-use Rattle.jeval.specs.Applying.{applied, applied_with, layer, layer_by, nested, ran, reference_in, referred, sought_in, verb_replied, way_of}
+use Rattle.jeval.specs.Applying.{applied, applied_with, asked, layer, layer_by, nested, ran, reference_in, referred, sought_in, verb_replied, way_of}
 use Rattle.jeval.specs.Cells.{OnCell, at_ranks, cells_done, in_cells, limits, on_cell, on_cells, on_each, on_fills}
 use Rattle.jeval.specs.Execution.{moved_in, moved_value, value_of, plain_reference, assigned, all_written, done, acted}
 use Rattle.jeval.specs.Makings.{term_of, made_of}
@@ -126,9 +126,13 @@ keeps_sought_in : (place : Option (List ℕ)) (name : List ℕ) → Keeps (sough
 keeps_sought_in None name = keeps_then (read name) (λ reply. answers (verb_replied reply)) (keeps_read name) (λ reply. keeps_return (verb_replied reply))
 keeps_sought_in (Some place) name = keeps_return {A = Term} (Err Nonce)
 
+keeps_asked : (repeats : Bool) (p : Action Noun) → Keeps p → Keeps (asked repeats p)
+keeps_asked true p k = keeps_turn p k
+keeps_asked false p k = k
+
 keeps_ran : (meant : Term → Option Noun → Noun → Action Noun) → ((verb : Term) (x : Option Noun) (y : Noun) → Keeps (meant verb x y)) → (d : Derivation) → Keeps (ran meant d)
 keeps_ran meant k (Return answer) = keeps_return answer
-keeps_ran meant k (Ask a next) = keeps_hears (meant a.verb a.x a.y) (λ answer. ran meant (next answer)) (k a.verb a.x a.y) (λ answer. keeps_ran meant k (next answer))
+keeps_ran meant k (Ask a next) = keeps_hears (asked a.repeats (meant a.verb a.x a.y)) (λ answer. ran meant (next answer)) (keeps_asked a.repeats (meant a.verb a.x a.y) (k a.verb a.x a.y)) (λ answer. keeps_ran meant k (next answer))
 
 keeps_layer_by : (meant : Term → Option Noun → Noun → Action Noun) → ((verb : Term) (x : Option Noun) (y : Noun) → Keeps (meant verb x y)) → (o : Option Locative) (t : Term) (x : Option Noun) (y : Noun) → Keeps (layer_by meant o t x y)
 keeps_layer_by meant k (Some name) t x y = keeps_then (referred name) (λ verb. meant verb x y) (keeps_sought_in name.place name.name) (λ verb. k verb x y)

@@ -1,6 +1,6 @@
 -- The application of a verb to its arguments (J Dictionary, "Verbs"; NuVoc, "Nouns, verbs and names": a verb's name is
 -- a reference, which is looked up each time it is run).
-use Rattle.std.specs.Prelude.{ℕ, zero, suc, List, Option, Some, None, Result, Ok, Err}
+use Rattle.std.specs.Prelude.{ℕ, zero, suc, Bool, true, false, List, Option, Some, None, Result, Ok, Err}
 use Rattle.jdata.specs.Noun.{int_atom}
 use Rattle.jdata.specs.declared.noun.Noun.{Noun}
 use Rattle.jdata.specs.declared.fault.Fault.{Fault}
@@ -59,10 +59,15 @@ way_of other = way.Derived
 abbrev pub Part : Type 0
 Part = Term → Option Noun → Noun → Action Noun
 
+-- a repetition takes a turn of its own
+abbrev pub asked : Bool → Action Noun → Action Noun
+asked true action = with_turn action
+asked false action = action
+
 -- the applications that a derivation asks for, in their order
 abbrev pub ran : Part → Derivation → Action Noun
 ran part (Return answer) = answers answer
-ran part (Ask a next) = part a.verb a.x a.y hears (λ answer. ran part (next answer))
+ran part (Ask a next) = asked a.repeats (part a.verb a.x a.y) hears (λ answer. ran part (next answer))
 
 abbrev pub reference_in : Term → Option Locative
 reference_in (term.Name name) = Some name

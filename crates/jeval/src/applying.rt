@@ -1,6 +1,7 @@
 //! The application of verbs.
-ghost use Rattle.std.specs.Prelude.{◌≡◌, length, option_map, IfOk};
+ghost use Rattle.std.specs.Prelude.{◌≡◌, length, option_map, IfOk, None};
 ghost use Rattle.jdata.specs.Noun.{product};
+ghost use Rattle.jeval.specs.Action.{with_turn};
 ghost use Rattle.jeval.specs.Applying as applying;
 ghost use Rattle.jeval.specs.Cells as celled;
 ghost use Rattle.jplan.specs.Arguments.{x_in};
@@ -102,6 +103,17 @@ impl<U: Uses> Activity<U> {
         }
     }
 
+    // A verb once more, which takes a turn.
+    #[cycle(apply)]
+    fn repeat(&mut self, levels: u64, verb: &Term, y: Datum) -> Result<Datum, EvalEnd>
+        ensures { Makes U.leads U.refuses self.old self.new (with_turn (applying.applied levels verb.now None y)) result }
+    {
+        if !self.state.take_turn() {
+            return Err(EvalEnd::Fault(Fault::TimeLimit));
+        }
+        self.apply(levels, verb, None, y)
+    }
+
     // Applies what a plan asks for, with so many levels for each.
     #[cycle(apply)]
     fn follow(&mut self, levels: u64, plan: Plan<'_>) -> Result<Datum, EvalEnd>
@@ -114,6 +126,14 @@ impl<U: Uses> Activity<U> {
                 Plan::Undo { verb, y } => {
                     let answer = heard(self.apply(levels, &verb, None, y))?;
                     return ended(answer);
+                }
+                Plan::Again { run, y } => {
+                    let answer = heard(self.repeat(levels, run.verb(), y))?;
+                    let Ok(next) = Box::into_inner(run).resume(self.alloc, &mut self.room, answer)
+                    else {
+                        return Err(NO_MEMORY);
+                    };
+                    at = next;
                 }
                 Plan::Apply { verb, x, y, after } => {
                     let answer = heard(self.apply(levels, verb, x, y))?;

@@ -1,11 +1,19 @@
 -- For which histories a desk in a turn stands, and what of it a turn keeps for passes.
-use Rattle.std.specs.Prelude.{◌≡◌, ℕ, List, [], ◌∷◌, Option, Some, None}
+use Rattle.std.specs.Prelude.{◌≡◌, ℕ, List, [], ◌∷◌, Option, Some, None, Result, Ok, Err}
 use Rattle.juses.specs.Desk.{reply}
+use Rattle.juses.specs.Due.{HandsTask, due_answer}
+use Rattle.juses.specs.Entries.{IsLonger, started_by}
 use Rattle.juses.specs.Histories.{after}
-use Rattle.juses.specs.Standing.{Kept, Stands}
+use Rattle.juses.specs.Standing.{Kept, Stands, Answers, OnlyMoves}
 use Rattle.juses.specs.declared.uses.Cause.{Cause}
 use Rattle.juses.specs.declared.uses.Cause.TheVariants as cause
 use Rattle.juses.specs.declared.uses.Entry.{Entry}
+use Rattle.juses.specs.declared.uses.Halt.{Halt}
+use Rattle.juses.specs.declared.uses.Halt.TheVariants.{Wait, NoMemory, Closed}
+use Rattle.juses.specs.declared.uses.Reply.{Reply}
+use Rattle.juses.specs.declared.uses.Use.{Use}
+use Rattle.juses.specs.declared.uses.Why.{Why}
+use Rattle.juses.specs.declared.uses.Work.{Work}
 
 -- these entries, the oldest in front, put on a history, whose newest stands in front
 abbrev pub put_on : List Entry → List Entry → List Entry
@@ -35,3 +43,21 @@ closed_as (Some cause.Stuck) = 2
 -- how many printed bytes were handed out, and how it was closed
 abbrev pub mark_of : Kept → ℕ × ℕ
 mark_of d = (d.handed, closed_as d.closed)
+
+-- ---- what a desk does in a turn
+
+-- it answers so only where it was closed so
+abbrev pub HaltsFor : Kept → Halt → Type 0
+HaltsFor d Wait = Unit {0}
+HaltsFor d NoMemory = Unit {0}
+HaltsFor d (Closed cause) = d.closed ≡ Some cause
+
+abbrev pub IsAnswered : Kept → List ℕ → ℕ → Use → Result Reply Halt → Kept → Type 0
+IsAnswered d who thread asked (Ok reply) d' = Answers d who thread asked reply d' × OnlyMoves d d' × IsLonger who (started_by asked reply)
+IsAnswered d who thread asked (Err halt) d' = HaltsFor d halt
+
+-- a task was begun; or none was due, or it isn't known whether one is
+abbrev pub IsBegun : Kept → ℕ → Why → Result (List ℕ × Work) (Option Halt) → Kept → Type 0
+IsBegun d thread why (Ok given) d' = HandsTask d thread why (Some given) d' × OnlyMoves d d'
+IsBegun d thread why (Err None) d' = HandsTask d thread why None d' × (Ok None ≡ due_answer d why)
+IsBegun d thread why (Err (Some halt)) d' = HaltsFor d halt

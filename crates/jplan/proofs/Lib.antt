@@ -1,3 +1,4 @@
 mod Parting
 pub mod Going
 mod Whole
+mod Repeated

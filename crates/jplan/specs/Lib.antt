@@ -3,6 +3,7 @@ pub mod Derivations
 pub mod Several
 pub mod Inserting
 pub mod Pieces
+pub mod Repeating
 pub mod Modifiers
 pub mod Plans
 pub mod Trains

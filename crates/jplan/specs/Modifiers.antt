@@ -14,6 +14,7 @@ use Rattle.juses.specs.Program.{Return, Ask}
 use Rattle.jplan.specs.Derivations.{Derivation, on, on_fault, applying, applying_last, refused}
 use Rattle.jplan.specs.Inserting.{insert}
 use Rattle.jplan.specs.Pieces.{cut, keyed, prefixed, suffixed}
+use Rattle.jplan.specs.Repeating.{power}
 use Rattle.jplan.specs.Trains.{hook, fork, left_or, noun_in}
 
 -- `u~`: `y u y`, and `y u x`
@@ -79,6 +80,7 @@ modified other u x y = refused Nonce
 
 abbrev pub joined : Con → Term → Term → Option Noun → Noun → Derivation
 joined con.Quote u n x y = ranked (noun_in u) u x y
+joined con.PowerColon u v x y = power u v x y
 joined con.At u v x y = atop u v x y
 joined con.AtColon u v x y = atop u v x y
 joined con.Ampersand u v x y = bond (noun_in u) (noun_in v) u v x y

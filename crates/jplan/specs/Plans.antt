@@ -1,18 +1,23 @@
 -- What is left of a plan, as a derivation.
-use Rattle.std.specs.Prelude.{◌≡◌, IfOk, ℕ, suc, ◌+◌, ◌-◌, ◌++◌, ◌∷◌, [], Result, Ok, Err, None, Some, length}
+use Rattle.std.specs.Prelude.{◌≡◌, IfOk, ℕ, suc, if◌then◌else◌, ◌+◌, ◌-◌, ◌++◌, ◌∷◌, [], Result, Ok, Err, None, Some, length}
+use Rattle.jarray.specs.Matches.{matches}
 use Rattle.jdata.specs.declared.noun.Noun.{Noun}
 use Rattle.juses.specs.Program.{Return, Ask}
-use Rattle.jplan.specs.Derivations.{Answer, Derivation, on, on_value, on_fault, applying, applying_last}
+use Rattle.jplan.specs.Derivations.{Answer, Derivation, on, again, on_value, on_fault, applying, applying_last, given}
 use Rattle.jplan.specs.Inserting.{inserted}
+use Rattle.jplan.specs.Repeating.{times, until_match, climb, powered, repeated}
 use Rattle.jplan.specs.Several.{alone, from_on, several_of}
 use Rattle.jdata.specs.Noun.{product}
 use Rattle.jdata.specs.declared.fault.NoMemory.{NoMemory}
 use Rattle.jdata.specs.declared.fault.Trouble.{Trouble}
 use Rattle.jdata.specs.declared.fault.Trouble.TheVariants as trouble
+use Rattle.jterm.specs.declared.term.Term.{Term}
 use Rattle.jplan.specs.declared.plan.Plan.{Plan}
 use Rattle.jplan.specs.declared.plan.Plan.TheVariants as plan
 use Rattle.jplan.specs.declared.plan.After.{After}
 use Rattle.jplan.specs.declared.plan.After.TheVariants as after
+use Rattle.jplan.specs.declared.repeating.Goal.{Goal}
+use Rattle.jplan.specs.declared.repeating.Goal.TheVariants as goal
 
 -- what becomes of the answer of an application
 abbrev pub rest_after : After → Answer → Derivation
@@ -28,12 +33,24 @@ rest_after (after.UnderLeft u b w) = on_value (λ a. applying u.now (Some a) b (
 rest_after (after.Undo w) = on_value (λ b. applying_last w.value None b)
 rest_after (after.Each u s) = on_value (λ value. from_on u.now (several_of s.value.parts) (s.value.at + 1) (s.value.results ++ value ∷ []))
 rest_after (after.Alone none) = λ answer. Return (alone none.frame answer)
+rest_after (after.Power u x y) = on_value (λ n. given (repeated u.now x) (λ w. powered w n y))
+
+-- what becomes of the value of a repetition
+abbrev pub rest_repeated : Term → Goal → Noun → Derivation
+rest_repeated u (goal.Times left) value = times u left value
+rest_repeated u (goal.Match before left) value = if matches value before then Return (Ok value) else until_match u left value
+rest_repeated u (goal.Climb s values left) value = climb u s.frame s.counts left values value
 
 -- what is left of a plan
 abbrev pub rest : Plan → Derivation
 rest (plan.Apply u x y next) = Ask (on u.now x y) (rest_after next)
 rest (plan.Undo w y) = applying_last w.value None y
+rest (plan.Again run y) = Ask (again run.value.verb y) (on_value (rest_repeated run.value.verb run.value.goal))
 rest (plan.Done answer) = Return answer
+
+-- repetitions are counted in 64 bits
+abbrev pub most_counted : ℕ
+most_counted = 18446744073709551615
 
 -- how many applications are left at most
 abbrev pub left_after : After → ℕ
@@ -49,10 +66,17 @@ left_after (after.UnderLeft u b w) = 2
 left_after (after.Undo w) = 1
 left_after (after.Each u s) = product (several_of s.value.parts).frame - (s.value.at + 1)
 left_after (after.Alone none) = 0
+left_after (after.Power u x y) = most_counted
+
+abbrev pub left_repeated : Goal → ℕ
+left_repeated (goal.Times left) = left
+left_repeated (goal.Match before left) = left
+left_repeated (goal.Climb s values left) = left
 
 abbrev pub left_of : Plan → ℕ
 left_of (plan.Apply u x y next) = suc (left_after next)
 left_of (plan.Undo w y) = 1
+left_of (plan.Again run y) = suc (left_repeated run.value.goal)
 left_of (plan.Done value) = 0
 
 -- an answer as the end of a plan

@@ -16,6 +16,7 @@ ghost use Rattle.juses.specs.Program.{Return};
 use crate::copies::{datum, left_twice, noun_in, twice};
 use crate::pieces::{cut, keyed, prefixed, suffixed};
 use crate::plan::{After, Plan, inserted, last};
+use crate::repeating::power;
 use crate::several::several_cells;
 use crate::trains::{fork, hook};
 use jarray::{Array, Room};
@@ -374,6 +375,7 @@ fn joined<'a>(
 {
     match word {
         Con::Quote => ranked(alloc, left, x, y),
+        Con::PowerColon => power(alloc, room, left, right, x, y),
         Con::At => Ok(atop(left, right, x, y)),
         Con::AtColon => Ok(atop(left, right, x, y)),
         Con::Ampersand => bond(alloc, left, right, x, y),

@@ -41,7 +41,8 @@ fn without_fault(pieces: Result<Pieces, NoMemory>) -> Result<Pieces, Trouble>
     }
 }
 
-fn integer(room: &Room, value: &Array) -> Option<i64>
+/// The number, where it is an integer that stands alone.
+pub(crate) fn integer(room: &Room, value: &Array) -> Option<i64>
     ensures { result ≡ meant.integer_in value.now.noun }
 {
     value.integer(room)

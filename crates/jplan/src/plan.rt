@@ -6,6 +6,7 @@ ghost use Rattle.jplan.specs.Inserting.{inserted as meant_inserted};
 ghost use Rattle.jplan.specs.Plans as plans;
 
 use crate::counted::Nowhere;
+use crate::repeating::{Repetition, by_value};
 use crate::series::Series;
 use crate::several::alone;
 use jarray::Room;
@@ -26,6 +27,11 @@ pub enum Plan<'a> {
     /// A verb that the plan made is to be applied, and its answer is that of the derived verb.
     Undo {
         verb: Box<Term>,
+        y: Datum,
+    },
+    /// A verb that the plan made is to be applied once more, which takes a turn, and the run goes on with its answer.
+    Again {
+        run: Box<Repetition>,
         y: Datum,
     },
     /// The value of the derived verb, or its fault.
@@ -92,6 +98,12 @@ pub enum After<'a> {
     },
     /// Of the answer only the shape and the kind count: it is for no items, where the results would have this frame.
     Alone(Nowhere),
+    /// The value says how often this verb is applied.
+    Power {
+        verb: &'a Term,
+        x: Option<Datum>,
+        y: Datum,
+    },
 }
 
 impl<'a> After<'a> {
@@ -162,6 +174,7 @@ impl<'a> After<'a> {
                 alloc, room, verb, value,
             ),
             After::Alone(none) => alone(alloc, room, &none, Ok(value)),
+            After::Power { verb, x, y } => by_value(alloc, room, verb, x, y, value.array()),
         }
     }
 

@@ -20,8 +20,8 @@ use jshape::Shape;
 use jterm::{Datum, Term};
 use std::alloc::Global;
 
-// An answer as the end of a plan.
-fn done<'a>(answer: Result<Tree, Trouble>) -> Result<Plan<'a>, NoMemory>
+/// An answer as the end of a plan.
+pub(crate) fn done<'a>(answer: Result<Tree, Trouble>) -> Result<Plan<'a>, NoMemory>
     ensures { plans.Ends answer result }
 {
     match answer {

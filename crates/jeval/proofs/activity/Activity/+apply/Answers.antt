@@ -1,10 +1,11 @@
-use Rattle.std.proofs.Common.{◌≡◌, ◌≢◌, ◌∙◌, ◌-◌, ◌+◌, ◌<◌, ◌≤◌, ◌++◌, ◌∷◌, [], ℕ, List, length, length-append, Err, ap, sym, refl, subst, rules, arith, Ok, Some, None}
+use Rattle.std.proofs.Common.{◌≡◌, ◌≢◌, ◌∙◌, ◌-◌, ◌+◌, ◌<◌, ◌≤◌, ◌++◌, ◌∷◌, [], ℕ, List, length, length-append, Result, Err, ap, sym, refl, subst, rules, arith, Ok, Some, None}
 use Rattle.std.specs.Prelude.{FitsSigned}
 use Rattle.std.proofs.lemmas.Int.{to_z-of_z}
 use mir.Syntax.{w64}
 use Rattle.jarray.specs.Placed.{Placed}
 use Rattle.std.specs.List.{range_with_len}
 use Rattle.jdata.specs.Noun.{int_atom, product}
+use Rattle.jdata.specs.declared.fault.Fault.{Fault}
 use Rattle.jdata.specs.declared.fault.Fault.TheVariants.{TimeLimit, Stack, Nonce}
 use Rattle.juses.proofs.Doing.{Relations}
 use Rattle.jterm.specs.declared.term.Term.{Term}
@@ -21,14 +22,16 @@ use Rattle.jplan.specs.Several.{alone}
 use Rattle.jeval.specs.Cells.{cells_done, on_cell, on_cells, on_each, on_fills}
 use Rattle.jeval.proofs.Celling.{goes_to_each, goes_to_fills, next_cell, no_place_left, on_args}
 use Rattle.jeval.specs.declared.end.EvalEnd.TheVariants as end
-use Rattle.jeval.specs.Action.{Action, answers, fails}
+use Rattle.jeval.specs.Action.{Action, answers, fails, with_turn}
 use Rattle.jeval.specs.Applying.{applied, nested, ran}
 use Rattle.jplan.specs.Derivations.{Derivation}
-use Rattle.jplan.specs.Plans.{left_of, rest, rest_after}
+use Rattle.jplan.specs.Derivations.{on_value}
+use Rattle.jplan.specs.Plans.{left_of, left_repeated, rest, rest_after, rest_repeated}
+use Rattle.jplan.specs.declared.repeating.Repetition.{Repetition}
 use Rattle.jeval.specs.Verbs.{primitive}
 use Rattle.jeval.proofs.Making.{answered, ended_as, fails_at_once, from_same, given, is_wanting, made_as, made_at, makes_on, makes_heard, stops_by, stops_unheard}
 use Rattle.jeval.proofs.Stages.{Stage, stage_on, stage_stops, stage_heard, stage_same, stage_unheard}
-use Rattle.jeval.proofs.Turning.{applies_primitive, applies_constant, applies_refused, applies_derived, nested_is_late, nested_is_deep, nested_goes_down, goes_to_reference, goes_to_derived}
+use Rattle.jeval.proofs.Turning.{late_turn, on_time, applies_primitive, applies_constant, applies_refused, applies_derived, nested_is_late, nested_is_deep, nested_goes_down, goes_to_reference, goes_to_derived}
 use Rattle.jeval.proofs.activity.Activity.+apply.Goals as goal
 
 pub apply-returns-in-Primitive : goal.apply-returns-in-Primitive
@@ -109,18 +112,18 @@ pub follow-loop-at-preserved : goal.follow-loop-at-preserved
 follow-loop-at-preserved g t c =
     let uses : Relations g.row.U.Denot = record { leads = g.U.Uses.leads; refuses = g.U.Uses.refuses; stays = g.met.U.Uses.stays; joins = g.met.U.Uses.joins } in
     let next : Derivation → Type 0 = λ d. Stage uses c.args.self.now (ran (applied c.args.levels) (rest c.args.plan)) c.apply-in-Apply.new.self (ran (applied c.args.levels) d) in
-    subst next (sym c.in-Ok.ensures.rest)
+    subst next (sym c.in-Ok-resume.ensures.rest)
     (stage_heard uses (λ answer. ran (applied c.args.levels) (rest_after c.in-Apply.after answer))
     (ap (λ p. ran (applied c.args.levels) (rest p) c.loop-at.self.state) c.in-Apply.is) (sym c.in_ok-answer-in-Apply.ensures) c.apply-in-Apply.ensures c.loop-at.invariant)
 
 pub follow-loop-at-smaller : goal.follow-loop-at-smaller
 follow-loop-at-smaller g t c =
-    let fewer = c.in-Ok.ensures.left in
+    let fewer = c.in-Ok-resume.ensures.left in
     let was = ap left_of c.in-Apply.is in
     omega (arith, fewer, was)
 
-pub follow-returns-in_default : goal.follow-returns-in_default
-follow-returns-in_default g t c =
+pub follow-returns-in_default-resume : goal.follow-returns-in_default-resume
+follow-returns-in_default-resume g t c =
     let uses : Relations g.row.U.Denot = record { leads = g.U.Uses.leads; refuses = g.U.Uses.refuses; stays = g.met.U.Uses.stays; joins = g.met.U.Uses.joins } in
     stage_heard uses (λ answer. ran (applied c.args.levels) (rest_after c.in-Apply.after answer))
     (ap (λ p. ran (applied c.args.levels) (rest p) c.loop-at.self.state) c.in-Apply.is) (sym c.in_ok-answer-in-Apply.ensures) c.apply-in-Apply.ensures c.loop-at.invariant
@@ -304,3 +307,50 @@ follow-returns-in-Undo g t c =
     stage_heard uses (λ answer. ran (applied c.args.levels) (Return answer))
     (ap (λ p. ran (applied c.args.levels) (rest p) c.loop-at.self.state) c.in-Undo.is) (sym c.in_ok-answer-in-Undo.ensures) (made_as uses (ap (λ (v : Term). applied c.args.levels v None c.in-Undo.y) c.deref.ensures) c.apply.ensures) c.loop-at.invariant
     c.apply.new.self c.ended-in-Undo.result (ended_as uses c.in_ok-answer-in-Undo.answer c.ended-in-Undo.ensures)
+
+-- a repetition takes a turn
+pub repeat-returns-then-not-take_turn : goal.repeat-returns-then-not-take_turn
+repeat-returns-then-not-take_turn g t c =
+    let uses : Relations g.row.U.Denot = record { leads = g.U.Uses.leads; refuses = g.U.Uses.refuses; stays = g.met.U.Uses.stays; joins = g.met.U.Uses.joins } in
+    let none = c.if-not-take_turn.ensures.none refl in
+    made_at uses {t = c.take_turn.new.self}
+    (late_turn (applied c.args.levels c.args.verb.now None c.args.y) c.args.self.now.state none.0 ∙ ap (fails TimeLimit) (sym none.1)) (fails_at_once uses TimeLimit)
+
+pub repeat-returns : goal.repeat-returns
+repeat-returns g t c =
+    let uses : Relations g.row.U.Denot = record { leads = g.U.Uses.leads; refuses = g.U.Uses.refuses; stays = g.met.U.Uses.stays; joins = g.met.U.Uses.joins } in
+    made_at uses {t = c.take_turn.new.self}
+    (on_time (applied c.args.levels c.args.verb.now None c.args.y) c.args.self.now.state c.take_turn.new.self (c.if-not-take_turn.ensures.taken refl)) c.apply.ensures
+
+pub follow-returns-in_err-answer-in-Again : goal.follow-returns-in_err-answer-in-Again
+follow-returns-in_err-answer-in-Again g t c =
+    let uses : Relations g.row.U.Denot = record { leads = g.U.Uses.leads; refuses = g.U.Uses.refuses; stays = g.met.U.Uses.stays; joins = g.met.U.Uses.joins } in
+    let run = c.in-Again.run'.value in
+    let next : Result Noun Fault → Action Noun = λ answer. ran (applied c.args.levels) (on_value (rest_repeated run.verb run.goal) answer) in
+    let is = ap (λ p. ran (applied c.args.levels) (rest p) c.loop-at.self.state) c.in-Again.is in
+    let verb_is = c.verb.ensures ∙ ap (λ (r : Repetition). r.verb) c.deref-in-Again.ensures in
+    let made = made_as uses (ap (λ (v : Term). with_turn (applied c.args.levels v None c.in-Again.y)) verb_is) c.repeat.ensures in
+    stage_unheard uses next is c.from_residual-in_err-answer-in-Again.ensures (sym c.in_err-answer-in-Again.ensures) made c.loop-at.invariant
+
+pub follow-loop-at-preserved-in-Again : goal.follow-loop-at-preserved-in-Again
+follow-loop-at-preserved-in-Again g t c =
+    let uses : Relations g.row.U.Denot = record { leads = g.U.Uses.leads; refuses = g.U.Uses.refuses; stays = g.met.U.Uses.stays; joins = g.met.U.Uses.joins } in
+    let run = c.in-Again.run'.value in
+    let next : Result Noun Fault → Action Noun = λ answer. ran (applied c.args.levels) (on_value (rest_repeated run.verb run.goal) answer) in
+    let is = ap (λ p. ran (applied c.args.levels) (rest p) c.loop-at.self.state) c.in-Again.is in
+    let verb_is = c.verb.ensures ∙ ap (λ (r : Repetition). r.verb) c.deref-in-Again.ensures in
+    let made = made_as uses (ap (λ (v : Term). with_turn (applied c.args.levels v None c.in-Again.y)) verb_is) c.repeat.ensures in
+    let after : Derivation → Type 0 = λ d. Stage uses c.args.self.now (ran (applied c.args.levels) (rest c.args.plan)) c.repeat.new.self (ran (applied c.args.levels) d) in
+    let left = c.in-Ok.ensures.rest ∙ ap (λ (r : Repetition). on_value (rest_repeated r.verb r.goal) c.in_ok-answer-in-Again.answer) c.into_inner.ensures in
+    subst after (sym left) (stage_heard uses next is (sym c.in_ok-answer-in-Again.ensures) made c.loop-at.invariant)
+
+pub follow-returns-in_default : goal.follow-returns-in_default
+follow-returns-in_default g t c =
+    let uses : Relations g.row.U.Denot = record { leads = g.U.Uses.leads; refuses = g.U.Uses.refuses; stays = g.met.U.Uses.stays; joins = g.met.U.Uses.joins } in
+    let run = c.in-Again.run'.value in
+    let next : Result Noun Fault → Action Noun = λ answer. ran (applied c.args.levels) (on_value (rest_repeated run.verb run.goal) answer) in
+    let is = ap (λ p. ran (applied c.args.levels) (rest p) c.loop-at.self.state) c.in-Again.is in
+    let verb_is = c.verb.ensures ∙ ap (λ (r : Repetition). r.verb) c.deref-in-Again.ensures in
+    let made = made_as uses (ap (λ (v : Term). with_turn (applied c.args.levels v None c.in-Again.y)) verb_is) c.repeat.ensures in
+    stage_heard uses next is (sym c.in_ok-answer-in-Again.ensures) made c.loop-at.invariant
+    c.repeat.new.self (Err (end.Halt NoMemory)) (is_wanting uses c.repeat.new.self (next c.in_ok-answer-in-Again.answer))
