@@ -3,6 +3,7 @@ use Rattle.std.specs.Prelude.{Option, Some, None, Result, Ok, Err}
 use Rattle.jdata.specs.declared.fault.Fault.TheVariants.{Nonce, Domain}
 use Rattle.jdata.specs.declared.fault.Fault.{Fault}
 use Rattle.jdata.specs.declared.noun.Noun.{Noun}
+use Rattle.jamend.specs.Amended.{amended}
 use Rattle.jsplit.specs.Undoing.{obverse}
 use Rattle.jterm.specs.declared.term.Term.{Term, Term-F, out-Term}
 use Rattle.jterm.specs.declared.term.Term.TheOpen as one
@@ -60,6 +61,11 @@ abbrev pub ranked : Option Noun → Term → Option Noun → Noun → Derivation
 ranked (Some m) u x y = Return (Ok m)
 ranked None u x y = applying_last u x y
 
+-- `x m} y`, which nothing else makes
+abbrev pub amend : Option Noun → Option Noun → Noun → Derivation
+amend (Some m) (Some x) y = Return (amended x m y)
+amend m x y = refused Nonce
+
 -- `u : v` is `u` with one argument and `v` with two
 abbrev pub ambivalent : Term → Term → Option Noun → Noun → Derivation
 ambivalent u v None y = applying_last u None y
@@ -69,15 +75,16 @@ ambivalent u v (Some x) y = applying_last v (Some x) y
 abbrev pub adverse : Term → Term → Option Noun → Noun → Derivation
 adverse u v x y = Ask (on u x y) (on_fault (applying_last v x y))
 
--- an adverb with its operand, and a conjunction with its operands; others aren't built
+-- an adverb with its operand
 abbrev pub modified : Adv → Term → Option Noun → Noun → Derivation
 modified adv.Slash u x y = insert u x y
 modified adv.Tilde u x y = reflex u x y
 modified adv.Backslash u x y = prefixed u x y
 modified adv.BackslashDot u x y = suffixed u x y
 modified adv.SlashDot u x y = keyed u x y
-modified other u x y = refused Nonce
+modified adv.RightBrace u x y = amend (noun_in u) x y
 
+-- a conjunction with its operands; others aren't built
 abbrev pub joined : Con → Term → Term → Option Noun → Noun → Derivation
 joined con.Quote u n x y = ranked (noun_in u) u x y
 joined con.PowerColon u v x y = power u v x y

@@ -45,7 +45,7 @@ rest_repeated u (goal.Climb s values left) value = climb u s.frame s.counts left
 abbrev pub rest : Plan → Derivation
 rest (plan.Apply u x y next) = Ask (on u.now x y) (rest_after next)
 rest (plan.Undo w y) = applying_last w.value None y
-rest (plan.Again run y) = Ask (again run.value.verb y) (on_value (rest_repeated run.value.verb run.value.goal))
+rest (plan.Again run y) = Ask (again run.value.verb.value y) (on_value (rest_repeated run.value.verb.value run.value.goal))
 rest (plan.Done answer) = Return answer
 
 -- repetitions are counted in 64 bits

@@ -99,13 +99,13 @@ fn picked<'a>(
 pub(crate) fn climb<'a>(
     alloc: Global,
     room: &mut Room,
-    verb: Term,
+    verb: Box<Term>,
     steps: Steps,
     left: u64,
     mut values: Sequence<Datum>,
     y: Datum,
 ) -> Result<Plan<'a>, NoMemory>
-    ensures rest { IfOk result (λ plan. plans.rest plan ≡ meant.climb verb steps.frame steps.counts left values y) }
+    ensures rest { IfOk result (λ plan. plans.rest plan ≡ meant.climb verb.value steps.frame steps.counts left values y) }
     ensures left { IfOk result (λ plan. plans.left_of plan ≤ left) }
 {
     let at = values.items().len() as u64;
@@ -147,14 +147,14 @@ fn most_of(counts: &[u64]) -> u64
 fn run<'a>(
     alloc: Global,
     room: &mut Room,
-    verb: Term,
+    verb: Box<Term>,
     frame: Shape,
     numbers: &[i64],
     y: Datum,
 ) -> Result<Plan<'a>, NoMemory>
     requires counts { list_all is_count numbers.now ≡ true }
     requires listed { product frame ≡ length numbers.now }
-    ensures rest { IfOk result (λ plan. plans.rest plan ≡ meant.listed verb frame (map count_of numbers.now) y) }
+    ensures rest { IfOk result (λ plan. plans.rest plan ≡ meant.listed verb.value frame (map count_of numbers.now) y) }
     ensures left { IfOk result (λ plan. plans.left_of plan ≤ plans.most_counted) }
 {
     if numbers.is_empty() {
@@ -170,11 +170,11 @@ fn run<'a>(
 pub(crate) fn listed<'a>(
     alloc: Global,
     room: &mut Room,
-    verb: Term,
+    verb: Box<Term>,
     list: &Array,
     y: Datum,
 ) -> Result<Plan<'a>, NoMemory>
-    ensures rest { IfOk result (λ plan. plans.rest plan ≡ meant.powered_by verb None list.now.noun y) }
+    ensures rest { IfOk result (λ plan. plans.rest plan ≡ meant.powered_by verb.value None list.now.noun y) }
     ensures left { IfOk result (λ plan. plans.left_of plan ≤ plans.most_counted) }
 {
     let Some(numbers) = list.numbers(room) else {

@@ -19,6 +19,7 @@ use crate::plan::{After, Plan, inserted, last};
 use crate::repeating::power;
 use crate::several::several_cells;
 use crate::trains::{fork, hook};
+use jamend::amend;
 use jarray::{Array, Room};
 use jdata::{Fault, NoMemory, Tree, Trouble};
 use jframe::{Cells, cells};
@@ -340,6 +341,26 @@ fn insert<'a>(
     }
 }
 
+// `m}`
+fn amended<'a>(
+    alloc: Global,
+    room: &mut Room,
+    left: &Term,
+    x: Option<Datum>,
+    y: Datum,
+) -> Result<Plan<'a>, NoMemory>
+    ensures { IfOk result (λ plan. rest plan ≡ modifiers.amend (meant_noun left.now) x y) }
+{
+    let (Some(at), Some(x)) = (noun_in(left), x) else {
+        return Ok(refused(Fault::Nonce));
+    };
+    match amend(alloc, room, x.into_array(), at, y.into_array()) {
+        Ok(value) => Ok(Plan::Done(Ok(Datum::of(value)))),
+        Err(Trouble::Fault(fault)) => Ok(refused(fault)),
+        Err(Trouble::NoMemory) => Err(NoMemory),
+    }
+}
+
 // An adverb with its operand.
 fn modified<'a>(
     alloc: Global,
@@ -357,7 +378,7 @@ fn modified<'a>(
         Adv::Backslash => prefixed(alloc, room, verb, x, y),
         Adv::BackslashDot => suffixed(alloc, room, verb, x, y),
         Adv::SlashDot => keyed(alloc, room, verb, x, y),
-        _ => Ok(refused(Fault::Nonce)),
+        Adv::RightBrace => amended(alloc, room, verb, x, y),
     }
 }
 

@@ -22,7 +22,7 @@ use std::alloc::Global;
 /// A verb that is applied again and again, and how far it has come. A repetition is waited for.
 #[derive(Drop)]
 pub struct Repetition {
-    pub(crate) verb: Term,
+    pub(crate) verb: Box<Term>,
     pub(crate) goal: Goal,
 }
 
@@ -47,7 +47,7 @@ pub enum Goal {
 impl Repetition {
     /// The verb that is repeated.
     pub fn verb(&self) -> &Term
-        ensures { result.now ≡ self.now.verb }
+        ensures { result.now ≡ self.now.verb.value }
     {
         &self.verb
     }
@@ -59,7 +59,7 @@ impl Repetition {
         room: &mut Room,
         answer: Result<Datum, Fault>,
     ) -> Result<Plan<'a>, NoMemory>
-        ensures rest { IfOk result (λ plan. plans.rest plan ≡ on_value (plans.rest_repeated self.verb self.goal) answer) }
+        ensures rest { IfOk result (λ plan. plans.rest plan ≡ on_value (plans.rest_repeated self.verb.value self.goal) answer) }
         ensures left { IfOk result (λ plan. plans.left_of plan ≤ plans.left_repeated self.goal) }
     {
         let Repetition { verb, goal } = self;
@@ -75,10 +75,10 @@ impl Goal {
         self,
         alloc: Global,
         room: &mut Room,
-        verb: Term,
+        verb: Box<Term>,
         value: Datum,
     ) -> Result<Plan<'a>, NoMemory>
-        ensures rest { IfOk result (λ plan. plans.rest plan ≡ plans.rest_repeated verb self value) }
+        ensures rest { IfOk result (λ plan. plans.rest plan ≡ plans.rest_repeated verb.value self value) }
         ensures left { IfOk result (λ plan. plans.left_of plan ≤ plans.left_repeated self) }
     {
         match self {
@@ -96,11 +96,11 @@ impl Goal {
 /// Once more, with what becomes of the value.
 pub(crate) fn again<'a>(
     alloc: Global,
-    verb: Term,
+    verb: Box<Term>,
     goal: Goal,
     y: Datum,
 ) -> Result<Plan<'a>, NoMemory>
-    ensures rest { IfOk result (λ plan. plans.rest plan ≡ Ask (meant_again verb y) (on_value (plans.rest_repeated verb goal))) }
+    ensures rest { IfOk result (λ plan. plans.rest plan ≡ Ask (meant_again verb.value y) (on_value (plans.rest_repeated verb.value goal))) }
     ensures left { IfOk result (λ plan. plans.left_of plan ≡ suc (plans.left_repeated goal)) }
 {
     let run = Box::new(alloc, Repetition { verb, goal })?;
@@ -108,8 +108,8 @@ pub(crate) fn again<'a>(
 }
 
 // So many times.
-fn times<'a>(alloc: Global, verb: Term, count: u64, y: Datum) -> Result<Plan<'a>, NoMemory>
-    ensures rest { IfOk result (λ plan. plans.rest plan ≡ meant.times verb count y) }
+fn times<'a>(alloc: Global, verb: Box<Term>, count: u64, y: Datum) -> Result<Plan<'a>, NoMemory>
+    ensures rest { IfOk result (λ plan. plans.rest plan ≡ meant.times verb.value count y) }
     ensures left { IfOk result (λ plan. plans.left_of plan ≤ count) }
 {
     if count == 0 {
@@ -122,11 +122,11 @@ fn times<'a>(alloc: Global, verb: Term, count: u64, y: Datum) -> Result<Plan<'a>
 fn until_match<'a>(
     alloc: Global,
     room: &Room,
-    verb: Term,
+    verb: Box<Term>,
     count: u64,
     y: Datum,
 ) -> Result<Plan<'a>, NoMemory>
-    ensures rest { IfOk result (λ plan. plans.rest plan ≡ meant.until_match verb count y) }
+    ensures rest { IfOk result (λ plan. plans.rest plan ≡ meant.until_match verb.value count y) }
     ensures left { IfOk result (λ plan. plans.left_of plan ≤ count) }
 {
     if count == 0 {
@@ -150,12 +150,12 @@ fn matches(room: &Room, value: &Datum, other: &Datum) -> bool
 fn compared<'a>(
     alloc: Global,
     room: &Room,
-    verb: Term,
+    verb: Box<Term>,
     before: Datum,
     left: u64,
     value: Datum,
 ) -> Result<Plan<'a>, NoMemory>
-    ensures rest { IfOk result (λ plan. plans.rest plan ≡ (if meant_matches value before then Return (Ok value) else meant.until_match verb left value)) }
+    ensures rest { IfOk result (λ plan. plans.rest plan ≡ (if meant_matches value before then Return (Ok value) else meant.until_match verb.value left value)) }
     ensures left { IfOk result (λ plan. plans.left_of plan ≤ left) }
 {
     if matches(room, &value, &before) {
@@ -170,7 +170,7 @@ fn undone<'a>(alloc: Global, verb: &Term, count: u64, y: Datum) -> Result<Plan<'
     ensures left { IfOk result (λ plan. plans.left_of plan ≤ count) }
 {
     match obverse(alloc, verb) {
-        Ok(other) => times(alloc, other, count, y),
+        Ok(other) => times(alloc, Box::new(alloc, other)?, count, y),
         Err(Trouble::Fault(fault)) => Ok(Plan::Done(Err(fault))),
         Err(Trouble::NoMemory) => Err(NoMemory),
     }
@@ -179,11 +179,11 @@ fn undone<'a>(alloc: Global, verb: &Term, count: u64, y: Datum) -> Result<Plan<'
 // As often as an integer says.
 fn number_of_times<'a>(
     alloc: Global,
-    verb: Term,
+    verb: Box<Term>,
     number: i64,
     y: Datum,
 ) -> Result<Plan<'a>, NoMemory>
-    ensures rest { IfOk result (λ plan. plans.rest plan ≡ meant.number_of_times verb number y) }
+    ensures rest { IfOk result (λ plan. plans.rest plan ≡ meant.number_of_times verb.value number y) }
     ensures left { IfOk result (λ plan. plans.left_of plan ≤ plans.most_counted) }
 {
     let count = number.unsigned_abs();
@@ -197,11 +197,11 @@ fn number_of_times<'a>(
 fn powered<'a>(
     alloc: Global,
     room: &mut Room,
-    verb: Term,
+    verb: Box<Term>,
     number: &Array,
     y: Datum,
 ) -> Result<Plan<'a>, NoMemory>
-    ensures rest { IfOk result (λ plan. plans.rest plan ≡ meant.powered verb number.now.noun y) }
+    ensures rest { IfOk result (λ plan. plans.rest plan ≡ meant.powered verb.value number.now.noun y) }
     ensures left { IfOk result (λ plan. plans.left_of plan ≤ plans.most_counted) }
 {
     match integer(room, number) {
@@ -229,11 +229,11 @@ fn is_endless(numbers: &[Option<i64>]) -> bool
 fn endless<'a>(
     alloc: Global,
     room: &Room,
-    verb: Term,
+    verb: Box<Term>,
     numbers: &RankList,
     y: Datum,
 ) -> Result<Plan<'a>, NoMemory>
-    ensures { IfOk result (λ plan. plans.rest plan ≡ meant.endless verb numbers.now y) }
+    ensures { IfOk result (λ plan. plans.rest plan ≡ meant.endless verb.value numbers.now y) }
 {
     if !is_endless(numbers.items()) {
         return Ok(Plan::Done(Err(Fault::Domain)));
@@ -270,7 +270,7 @@ pub(crate) fn by_value<'a>(
     ensures left { IfOk result (λ plan. plans.left_of plan ≤ plans.most_counted) }
 {
     match repeated(alloc, room, verb, x) {
-        Ok(verb) => powered(alloc, room, verb, number, y),
+        Ok(verb) => powered(alloc, room, Box::new(alloc, verb)?, number, y),
         Err(Trouble::Fault(fault)) => Ok(Plan::Done(Err(fault))),
         Err(Trouble::NoMemory) => Err(NoMemory),
     }
@@ -288,7 +288,7 @@ fn by_ranks<'a>(
     ensures { IfOk result (λ plan. plans.rest plan ≡ given (meant.repeated verb.now x) (λ w. meant.endless w numbers.now y)) }
 {
     match repeated(alloc, room, verb, x) {
-        Ok(verb) => endless(alloc, room, verb, numbers, y),
+        Ok(verb) => endless(alloc, room, Box::new(alloc, verb)?, numbers, y),
         Err(Trouble::Fault(fault)) => Ok(Plan::Done(Err(fault))),
         Err(Trouble::NoMemory) => Err(NoMemory),
     }

@@ -126,7 +126,7 @@ fn cell_boxed<'a>(content: &Tree, y: View<'a>) -> Result<View<'a>, Fault>
 }
 
 /// The integers in a box that names a cell: none, where it has no atoms.
-fn numbers_boxed(content: &Tree) -> Result<&[i64], Fault>
+pub fn numbers_boxed(content: &Tree) -> Result<&[i64], Fault>
     ensures { MatchResult result (λ numbers. meant.numbers_boxed content.now ≡ Ok numbers.now) (λ why. meant.numbers_boxed content.now ≡ Err why) }
 {
     let atoms = content.leaf();

@@ -57,7 +57,7 @@ fn copies_of<T: Item>(alloc: Global, plan: Plan<'_>, items: &[T]) -> Result<Leav
 }
 
 /// An item of `cell` atoms, so many times.
-fn push_times<T: Item>(
+pub fn push_times<T: Item>(
     alloc: Global,
     items: &[T],
     place: usize,

@@ -51,7 +51,8 @@ pub fn items_named(
     limited(shape, leaves)
 }
 
-fn both_axes(alloc: Global, frame: &[u64], item: &[u64]) -> Result<Vec<u64>, NoMemory>
+/// The axes of a frame before those of an item.
+pub fn both_axes(alloc: Global, frame: &[u64], item: &[u64]) -> Result<Vec<u64>, NoMemory>
     ensures { IfOk result (λ axes. axes.items ≡ frame.now ++ item.now) }
 {
     let mut axes = Vec::with_capacity(alloc, frame.len() + item.len())?;
@@ -61,7 +62,7 @@ fn both_axes(alloc: Global, frame: &[u64], item: &[u64]) -> Result<Vec<u64>, NoM
 }
 
 /// The place that each number names among so many.
-fn places_of(alloc: Global, count: u64, numbers: &[i64]) -> Result<Sequence<u64>, Trouble>
+pub fn places_of(alloc: Global, count: u64, numbers: &[i64]) -> Result<Sequence<u64>, Trouble>
     ensures { Answers (all_or_first (map (place_of count) numbers.now)) result }
 {
     let mut places = Vec::with_capacity(alloc, numbers.len())?;

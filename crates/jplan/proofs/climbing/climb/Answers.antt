@@ -10,7 +10,7 @@ use Rattle.jplan.proofs.climbing.climb.Goals as goal
 
 pub returns-then-left-eq0-clause-rest : goal.returns-then-left-eq0-clause-rest
 returns-then-left-eq0-clause-rest c =
-    let u = c.args.verb in
+    let u = c.args.verb.value in
     let f = c.args.steps.frame in
     let cs = c.args.steps.counts in
     let both = c.in_ok-y.ensures in
@@ -26,7 +26,7 @@ returns-then-left-eq0-clause-left c =
 
 pub returns-clause-rest : goal.returns-clause-rest
 returns-clause-rest c =
-    let u = c.args.verb in
+    let u = c.args.verb.value in
     let f = c.args.steps.frame in
     let cs = c.args.steps.counts in
     let n = c.args.left in

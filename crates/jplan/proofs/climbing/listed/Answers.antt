@@ -9,15 +9,15 @@ use Rattle.jplan.proofs.climbing.listed.Goals as goal
 
 pub returns-then-shape-ne1-clause-rest : goal.returns-then-shape-ne1-clause-rest
 returns-then-shape-ne1-clause-rest c =
-    shape_refused c.args.verb c.args.list.now.noun c.args.y c.in-Some.ensures.integers (λ one. c.if-shape-ne1.true (ap length c.shape.ensures.value ∙ one))
+    shape_refused c.args.verb.value c.args.list.now.noun c.args.y c.in-Some.ensures.integers (λ one. c.if-shape-ne1.true (ap length c.shape.ensures.value ∙ one))
 
 pub returns-then-not-are_counts-clause-rest : goal.returns-then-not-are_counts-clause-rest
 returns-then-not-are_counts-clause-rest c =
-    numbers_refused c.args.verb c.args.list.now.noun c.args.y c.in-Some.numbers.now c.in-Some.ensures.integers c.in-Some.ensures.some (sym c.are_counts.ensures ∙ c.if-not-are_counts.true)
+    numbers_refused c.args.verb.value c.args.list.now.noun c.args.y c.in-Some.numbers.now c.in-Some.ensures.integers c.in-Some.ensures.some (sym c.are_counts.ensures ∙ c.if-not-are_counts.true)
 
 pub returns-in-Ok-clause-rest : goal.returns-in-Ok-clause-rest
 returns-in-Ok-clause-rest c =
-    let u = c.args.verb in
+    let u = c.args.verb.value in
     let v = c.args.list.now.noun in
     let l = c.in-Some.numbers.now in
     let y = c.args.y in

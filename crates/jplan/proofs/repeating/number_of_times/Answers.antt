@@ -12,10 +12,12 @@ use Rattle.jplan.proofs.repeating.number_of_times.Goals as goal
 
 pub returns-then-number-lt0-clause-rest : goal.returns-then-number-lt0-clause-rest
 returns-then-number-lt0-clause-rest c =
-    let u = c.args.verb in
+    let u = c.args.verb.value in
     let k = c.args.number in
     let y = c.args.y in
     let fits : FitsSigned w64 k = search rules in
     let test = simp to_z-of_z at c.if-number-lt0.true in
     let size = simp to_z-of_z at c.unsigned_abs-count.ensures.value in
-    with_ok (λ p. rest p ≡ given (obverse u) (λ v. times v c.unsigned_abs-count.result y)) (λ p. rest p ≡ number_of_times u k y) c.undone.result (λ p e. e ∙ ap (λ n. given (obverse u) (λ v. times v n y)) size ∙ below_0 u k y test) c.undone.ensures.rest
+    let of = c.deref.ensures in
+    with_ok (λ p. rest p ≡ given (obverse c.deref.result.now) (λ v. times v c.unsigned_abs-count.result y)) (λ p. rest p ≡ number_of_times u k y) c.undone.result
+    (λ p e. e ∙ (λ i. given (obverse (of i)) (λ v. times v (size i) y)) ∙ below_0 u k y test) c.undone.ensures.rest

@@ -11,7 +11,7 @@ use Rattle.jplan.proofs.repeating.until_match.Goals as goal
 
 pub returns-clause-rest : goal.returns-clause-rest
 returns-clause-rest c =
-    let u = c.args.verb in
+    let u = c.args.verb.value in
     let n = c.args.count in
     let y = c.args.y in
     let step : Noun → Noun → Derivation = λ b z. Ask (again u z) (on_value (λ v. if matches v b then Return (Ok v) else until_match u (n - 1) v)) in

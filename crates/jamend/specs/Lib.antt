@@ -1,0 +1,3 @@
+pub mod Amended
+pub mod Naming
+pub mod Replacing
