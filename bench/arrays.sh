@@ -10,7 +10,7 @@ atoms=1000000 rounds=20
 
 # seconds TEXT: a script that gives this text's value again and again
 seconds() {
-    { printf 'n =: %d\na =: 9 | i. n\nk =: n $ 1 0\np =: |. i. n\nt =: 1000 1000 $ a\ns =: i. n\n' "$atoms"
+    { printf 'n =: %d\na =: 9 | i. n\nk =: n $ 1 0\np =: |. i. n\nt =: 1000 1000 $ a\ns =: i. n\nc =: n $ 3\n' "$atoms"
       awk -v n="$rounds" -v text="$1" 'BEGIN { for (i = 0; i < n; i++) print "b =: " text }'; } > "$work/script"
     /usr/bin/time -f '%e' -o "$work/time" crates/jconsole/out/jconsole < "$work/script" > /dev/null
     tail -n 1 "$work/time"
@@ -25,7 +25,31 @@ k = numpy.resize(numpy.array([1, 0]), n)
 p = numpy.arange(n, dtype=numpy.int64)[::-1].copy()
 t = a.reshape(1000, 1000)
 s = numpy.arange(n, dtype=numpy.int64)
-apply = {'i.': lambda: numpy.arange(n, dtype=numpy.int64), ',': lambda: numpy.concatenate((a, a)), '|.': lambda: a[::-1].copy(), '{.': lambda: a[:500000].copy(), '#': lambda: numpy.repeat(a, k), '{': lambda: numpy.take(a, p), '|:': lambda: numpy.ascontiguousarray(t.T), '/:': lambda: numpy.argsort(p, kind='stable'), '/: of equal': lambda: numpy.argsort(a, kind='stable'), 'x /: y': lambda: numpy.take(a, numpy.argsort(p, kind='stable')), 'I.': lambda: numpy.searchsorted(s, a)}[verb]
+c = numpy.full(n, 3, dtype=numpy.int64)
+apply = {
+    'i.': lambda: numpy.arange(n, dtype=numpy.int64),
+    ',': lambda: numpy.concatenate((a, a)),
+    '|.': lambda: a[::-1].copy(),
+    '{.': lambda: a[:500000].copy(),
+    '#': lambda: numpy.repeat(a, k),
+    '{': lambda: numpy.take(a, p),
+    '|:': lambda: numpy.ascontiguousarray(t.T),
+    '/:': lambda: numpy.argsort(p, kind='stable'),
+    '/: of equal': lambda: numpy.argsort(a, kind='stable'),
+    '/: of sorted': lambda: numpy.argsort(s, kind='stable'),
+    'x /: y': lambda: numpy.take(a, numpy.argsort(p, kind='stable')),
+    '/:~': lambda: numpy.sort(p, kind='stable'),
+    'I.': lambda: numpy.searchsorted(s, a),
+    '~.': lambda: numpy.unique(a),
+    '~. of different': lambda: numpy.unique(p),
+    '~. of sorted': lambda: numpy.unique(s),
+    'x i. y': lambda: numpy.searchsorted(s, p),
+    '+/': lambda: a.sum(),
+    '>./': lambda: a.max(),
+    '(+/ % #)': lambda: c.sum() // c.size,
+    '+/"1': lambda: t.sum(axis=1),
+    '*:@i.': lambda: numpy.square(numpy.arange(n, dtype=numpy.int64)),
+}[verb]
 start = time.perf_counter()
 for _ in range(rounds):
     b = apply()
@@ -54,5 +78,16 @@ row '{' 'p { a' 'p ] a'
 row '|:' '|: t' '] t'
 row '/:' '/: p' '] p'
 row '/: of equal' '/: a' '] a'
+row '/: of sorted' '/: s' '] s'
 row 'x /: y' 'a /: p' 'a ] p'
+row '/:~' '/:~ p' '] p'
 row 'I.' 's I. a' 's ] a'
+row '~.' '~. a' '] a'
+row '~. of different' '~. p' '] p'
+row '~. of sorted' '~. s' '] s'
+row 'x i. y' 's i. p' 's ] p'
+row '+/' '+/ a' '] a'
+row '>./' '>./ a' '] a'
+row '(+/ % #)' '(+/ % #) c' '] c'
+row '+/"1' '+/"1 t' '] t'
+row '*:@i.' '*:@i. n' '] n'

@@ -9,3 +9,5 @@ pub mod Splitting
 pub mod Quoted
 pub mod Makings
 mod Celling
+pub mod Directly
+pub mod Scanning

@@ -3,6 +3,7 @@ pub mod Activity
 pub mod Made
 pub mod Verbs
 pub mod Cells
+pub mod Direct
 pub mod Applying
 pub mod Makings
 pub mod Targets

@@ -1,16 +1,20 @@
 //! The application of verbs.
-ghost use Rattle.std.specs.Prelude.{◌≡◌, length, option_map, IfOk, None};
+ghost use Rattle.std.specs.Prelude.{◌≡◌, ℕ, suc, length, option_map, IfErr, IfNone, IfOk, IfSome, None, Ok};
 ghost use Rattle.jdata.specs.Noun.{product};
 ghost use Rattle.jeval.specs.Action.{with_turn};
 ghost use Rattle.jeval.specs.Applying as applying;
 ghost use Rattle.jeval.specs.Cells as celled;
 ghost use Rattle.jplan.specs.Arguments.{x_in};
+ghost use Rattle.jplan.specs.Modifiers.{derived as meant_derived};
 ghost use Rattle.jplan.specs.Plans as plans;
 ghost use Rattle.juses.specs.Events.{RunsWhole};
 ghost use Rattle.jeval.specs.Made.{Makes, settled};
+ghost use Rattle.jeval.specs.declared.end.EvalEnd.TheVariants as end;
+ghost use Rattle.juses.specs.declared.uses.Halt.TheVariants as halts;
 
 use crate::activity::Activity;
 use crate::cells::{alone, finished, parted};
+use crate::direct::{direct, list, scanned};
 use crate::end::{EvalEnd, NO_MEMORY, ended, heard};
 use crate::verbs::primitive;
 use jarray::Array;
@@ -146,6 +150,86 @@ impl<U: Uses> Activity<U> {
         }
     }
 
+    // The values of a verb on the pieces of a list at once, where there are turns for all of them. It wants a level.
+    fn scan_down(
+        &mut self,
+        verb: &Term,
+        x: &Option<Datum>,
+        y: &Datum,
+    ) -> Result<Option<Datum>, EvalEnd>
+        ensures some { IfOk result (λ made. IfSome made (λ value. (levels : ℕ) → Makes U.leads U.refuses self.old self.new (applying.ran (applying.applied (suc levels)) (meant_derived verb.now x.now y.now)) (Ok value))) }
+        ensures none { IfOk result (λ made. IfNone made (self.new ≡ self.old)) }
+        ensures err { IfErr result (λ why. (why ≡ end.Halt halts.NoMemory) × (self.new ≡ self.old)) }
+    {
+        let Ok(Some(values)) = scanned(self.alloc, &self.room, verb, x, y) else {
+            return Ok(None);
+        };
+        let count = values.items().len() as u64;
+        let Ok(value) = list(self.alloc, values) else {
+            return Err(NO_MEMORY);
+        };
+        if self.state.take_turns(count) {
+            Ok(Some(value))
+        } else {
+            Ok(None)
+        }
+    }
+
+    // The same, with so many levels.
+    fn scan(
+        &mut self,
+        levels: u64,
+        verb: &Term,
+        x: &Option<Datum>,
+        y: &Datum,
+    ) -> Result<Option<Datum>, EvalEnd>
+        ensures some { IfOk result (λ made. IfSome made (λ value. Makes U.leads U.refuses self.old self.new (applying.ran (applying.applied levels) (meant_derived verb.now x.now y.now)) (Ok value))) }
+        ensures none { IfOk result (λ made. IfNone made (self.new ≡ self.old)) }
+        ensures err { IfErr result (λ why. (why ≡ end.Halt halts.NoMemory) × (self.new ≡ self.old)) }
+    {
+        if levels == 0 {
+            return Ok(None);
+        }
+        self.scan_down(verb, x, y)
+    }
+
+    // What a derived verb does, by its plan.
+    #[cycle(apply)]
+    fn plan(
+        &mut self,
+        levels: u64,
+        verb: &Term,
+        x: Option<Datum>,
+        y: Datum,
+    ) -> Result<Datum, EvalEnd>
+        ensures { Makes U.leads U.refuses self.old self.new (applying.ran (applying.applied levels) (meant_derived verb.now x y)) result }
+    {
+        match derived(self.alloc, &mut self.room, verb, x, y) {
+            Ok(plan) => self.follow(levels, plan),
+            Err(NoMemory) => Err(NO_MEMORY),
+        }
+    }
+
+    // What a derived verb does, with so many levels for what it applies.
+    #[cycle(apply)]
+    fn unfold(
+        &mut self,
+        levels: u64,
+        verb: &Term,
+        x: Option<Datum>,
+        y: Datum,
+    ) -> Result<Datum, EvalEnd>
+        ensures { Makes U.leads U.refuses self.old self.new (applying.ran (applying.applied levels) (meant_derived verb.now x y)) result }
+    {
+        if let Some(number) = direct(&self.room, verb, &x, &y) {
+            return Ok(Datum::of(Array::atom(number)));
+        }
+        match self.scan(levels, verb, &x, &y)? {
+            Some(value) => Ok(value),
+            None => self.plan(levels, verb, x, y),
+        }
+    }
+
     // What a reference stands for, or what a derived verb is made of, with so many levels for it.
     #[cycle(apply)]
     fn descend(
@@ -162,10 +246,7 @@ impl<U: Uses> Activity<U> {
                 let verb = self.referred(reference)?;
                 self.apply(levels, &verb, x, y)
             }
-            None => match derived(self.alloc, &mut self.room, verb, x, y) {
-                Ok(plan) => self.follow(levels, plan),
-                Err(NoMemory) => Err(NO_MEMORY),
-            },
+            None => self.unfold(levels, verb, x, y),
         }
     }
 

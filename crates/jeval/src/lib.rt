@@ -6,6 +6,7 @@ mod applying;
 mod building;
 mod cells;
 mod constants;
+mod direct;
 mod end;
 mod eval;
 mod execution;

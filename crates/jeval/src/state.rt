@@ -26,4 +26,16 @@ impl State {
         self.left -= 1;
         true
     }
+
+    /// Takes so many turns, where as many are left.
+    pub(crate) fn take_turns(&mut self, count: u64) -> bool
+        ensures taken { IsTrue result → self.old ≡ with_left (count + self.new.left) self.new }
+        ensures none { IsFalse result → self.new ≡ self.old }
+    {
+        if self.left < count {
+            return false;
+        }
+        self.left -= count;
+        true
+    }
 }

@@ -24,7 +24,7 @@ use Rattle.jframe.proofs.Arrays.{cut}
 passes : (a b c : Bool) (v : Noun) → a ≡ true → b ≡ true → c ≡ true → cond (a && (b && c)) (Ok v) (Err fault.Limit) ≡ Ok v
 passes a b c v p q s = rw (p, q, s) refl
 
-within_limits : (v : Noun) → IsArray v → limited v ≡ Ok v
+pub within_limits : (v : Noun) → IsArray v → limited v ≡ Ok v
 within_limits v a =
     passes (nat_le (length (shape v)) most_axes) (nat_le (extent (shape v)) most_atoms) (nat_le (level v) most_levels) v
     (le-leb _ _ a.within.rank) (le-leb _ _ a.within.extent_at_most) (le-leb _ _ a.level_at_most)

@@ -26,10 +26,12 @@ use Rattle.jeval.specs.Action.{Action, answers, fails, with_turn}
 use Rattle.jeval.specs.Applying.{applied, nested, ran}
 use Rattle.jplan.specs.Derivations.{Derivation}
 use Rattle.jplan.specs.Derivations.{on_value}
+use Rattle.jplan.specs.Modifiers.{derived}
 use Rattle.jplan.specs.Plans.{left_of, left_repeated, rest, rest_after, rest_repeated}
 use Rattle.jplan.specs.declared.repeating.Repetition.{Repetition}
 use Rattle.jeval.specs.Verbs.{primitive}
 use Rattle.jeval.proofs.Making.{answered, ended_as, fails_at_once, from_same, given, is_wanting, made_as, made_at, makes_on, makes_heard, stops_by, stops_unheard}
+use Rattle.jeval.proofs.Directly.{at_once, runs}
 use Rattle.jeval.proofs.Stages.{Stage, stage_on, stage_stops, stage_heard, stage_same, stage_unheard}
 use Rattle.jeval.proofs.Turning.{late_turn, on_time, applies_primitive, applies_constant, applies_refused, applies_derived, nested_is_late, nested_is_deep, nested_goes_down, goes_to_reference, goes_to_derived}
 use Rattle.jeval.proofs.activity.Activity.+apply.Goals as goal
@@ -91,10 +93,26 @@ descend-returns-in_ok-verb-in-Some g t c =
     made_at uses {t = c.args.self.now.state} (goes_to_reference (applied c.args.levels) c.args.verb.now c.in-Some.reference.now c.args.x c.args.y c.args.self.now.state c.in-Some.ensures)
     (makes_on uses (λ verb. applied c.args.levels verb c.args.x c.args.y) c.in_ok-verb-in-Some.ensures c.apply.ensures)
 
-pub descend-returns-in-Ok : goal.descend-returns-in-Ok
-descend-returns-in-Ok g t c =
+pub descend-returns-in-None : goal.descend-returns-in-None
+descend-returns-in-None g t c =
     let uses : Relations g.row.U.Denot = record { leads = g.U.Uses.leads; refuses = g.U.Uses.refuses; stays = g.met.U.Uses.stays; joins = g.met.U.Uses.joins } in
-    made_at uses {t = c.args.self.now.state} (goes_to_derived (applied c.args.levels) c.args.verb.now (rest c.in-Ok.plan) c.args.x c.args.y c.args.self.now.state c.in-None.ensures c.in-Ok.ensures)
+    made_at uses {t = c.args.self.now.state} (goes_to_derived (applied c.args.levels) c.args.verb.now (derived c.args.verb.now c.args.x c.args.y) c.args.x c.args.y c.args.self.now.state c.in-None.ensures refl)
+    c.unfold.ensures
+
+-- what is had directly is what the derivation gives
+pub unfold-returns-in-Some : goal.unfold-returns-in-Some
+unfold-returns-in-Some g t c =
+    let uses : Relations g.row.U.Denot = record { leads = g.U.Uses.leads; refuses = g.U.Uses.refuses; stays = g.met.U.Uses.stays; joins = g.met.U.Uses.joins } in
+    let fits : FitsSigned w64 c.in-Some.number = search rules in
+    let is : c.of.result ≡ int_atom c.in-Some.number = c.of.ensures ∙ ap (λ (p : Placed). p.noun) c.atom.ensures ∙ ap int_atom (to_z-of_z w64 c.in-Some.number fits) in
+    made_at uses {t = c.args.self.now.state}
+    (runs (applied c.args.levels) (at_once c.args.levels) (derived c.args.verb.now c.args.x c.args.y) (int_atom c.in-Some.number) c.in-Some.ensures c.args.self.now.state)
+    (given uses (int_atom c.in-Some.number) (Ok c.of.result) is)
+
+pub plan-returns-in-Ok : goal.plan-returns-in-Ok
+plan-returns-in-Ok g t c =
+    let uses : Relations g.row.U.Denot = record { leads = g.U.Uses.leads; refuses = g.U.Uses.refuses; stays = g.met.U.Uses.stays; joins = g.met.U.Uses.joins } in
+    made_at uses {t = c.args.self.now.state} (ap (λ d. ran (applied c.args.levels) d c.args.self.now.state) (sym c.in-Ok.ensures))
     c.follow.ensures
 
 pub follow-returns-in-Done : goal.follow-returns-in-Done
@@ -326,9 +344,9 @@ pub follow-returns-in_err-answer-in-Again : goal.follow-returns-in_err-answer-in
 follow-returns-in_err-answer-in-Again g t c =
     let uses : Relations g.row.U.Denot = record { leads = g.U.Uses.leads; refuses = g.U.Uses.refuses; stays = g.met.U.Uses.stays; joins = g.met.U.Uses.joins } in
     let run = c.in-Again.run'.value in
-    let next : Result Noun Fault → Action Noun = λ answer. ran (applied c.args.levels) (on_value (rest_repeated run.verb run.goal) answer) in
+    let next : Result Noun Fault → Action Noun = λ answer. ran (applied c.args.levels) (on_value (rest_repeated run.verb.value run.goal) answer) in
     let is = ap (λ p. ran (applied c.args.levels) (rest p) c.loop-at.self.state) c.in-Again.is in
-    let verb_is = c.verb.ensures ∙ ap (λ (r : Repetition). r.verb) c.deref-in-Again.ensures in
+    let verb_is = c.verb.ensures ∙ ap (λ (r : Repetition). r.verb.value) c.deref-in-Again.ensures in
     let made = made_as uses (ap (λ (v : Term). with_turn (applied c.args.levels v None c.in-Again.y)) verb_is) c.repeat.ensures in
     stage_unheard uses next is c.from_residual-in_err-answer-in-Again.ensures (sym c.in_err-answer-in-Again.ensures) made c.loop-at.invariant
 
@@ -336,21 +354,21 @@ pub follow-loop-at-preserved-in-Again : goal.follow-loop-at-preserved-in-Again
 follow-loop-at-preserved-in-Again g t c =
     let uses : Relations g.row.U.Denot = record { leads = g.U.Uses.leads; refuses = g.U.Uses.refuses; stays = g.met.U.Uses.stays; joins = g.met.U.Uses.joins } in
     let run = c.in-Again.run'.value in
-    let next : Result Noun Fault → Action Noun = λ answer. ran (applied c.args.levels) (on_value (rest_repeated run.verb run.goal) answer) in
+    let next : Result Noun Fault → Action Noun = λ answer. ran (applied c.args.levels) (on_value (rest_repeated run.verb.value run.goal) answer) in
     let is = ap (λ p. ran (applied c.args.levels) (rest p) c.loop-at.self.state) c.in-Again.is in
-    let verb_is = c.verb.ensures ∙ ap (λ (r : Repetition). r.verb) c.deref-in-Again.ensures in
+    let verb_is = c.verb.ensures ∙ ap (λ (r : Repetition). r.verb.value) c.deref-in-Again.ensures in
     let made = made_as uses (ap (λ (v : Term). with_turn (applied c.args.levels v None c.in-Again.y)) verb_is) c.repeat.ensures in
     let after : Derivation → Type 0 = λ d. Stage uses c.args.self.now (ran (applied c.args.levels) (rest c.args.plan)) c.repeat.new.self (ran (applied c.args.levels) d) in
-    let left = c.in-Ok.ensures.rest ∙ ap (λ (r : Repetition). on_value (rest_repeated r.verb r.goal) c.in_ok-answer-in-Again.answer) c.into_inner.ensures in
+    let left = c.in-Ok.ensures.rest ∙ ap (λ (r : Repetition). on_value (rest_repeated r.verb.value r.goal) c.in_ok-answer-in-Again.answer) c.into_inner.ensures in
     subst after (sym left) (stage_heard uses next is (sym c.in_ok-answer-in-Again.ensures) made c.loop-at.invariant)
 
 pub follow-returns-in_default : goal.follow-returns-in_default
 follow-returns-in_default g t c =
     let uses : Relations g.row.U.Denot = record { leads = g.U.Uses.leads; refuses = g.U.Uses.refuses; stays = g.met.U.Uses.stays; joins = g.met.U.Uses.joins } in
     let run = c.in-Again.run'.value in
-    let next : Result Noun Fault → Action Noun = λ answer. ran (applied c.args.levels) (on_value (rest_repeated run.verb run.goal) answer) in
+    let next : Result Noun Fault → Action Noun = λ answer. ran (applied c.args.levels) (on_value (rest_repeated run.verb.value run.goal) answer) in
     let is = ap (λ p. ran (applied c.args.levels) (rest p) c.loop-at.self.state) c.in-Again.is in
-    let verb_is = c.verb.ensures ∙ ap (λ (r : Repetition). r.verb) c.deref-in-Again.ensures in
+    let verb_is = c.verb.ensures ∙ ap (λ (r : Repetition). r.verb.value) c.deref-in-Again.ensures in
     let made = made_as uses (ap (λ (v : Term). with_turn (applied c.args.levels v None c.in-Again.y)) verb_is) c.repeat.ensures in
     stage_heard uses next is (sym c.in_ok-answer-in-Again.ensures) made c.loop-at.invariant
     c.repeat.new.self (Err (end.Halt NoMemory)) (is_wanting uses c.repeat.new.self (next c.in_ok-answer-in-Again.answer))

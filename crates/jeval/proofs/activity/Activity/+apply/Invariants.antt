@@ -12,31 +12,37 @@ use Rattle.jeval.proofs.activity.Activity.+apply.Given as goal
 -- an application goes through its cells, each of which goes down to what the verb is made of and so through a plan,
 -- which applies
 abbrev pub decreases-apply : goal.decreases-apply
-decreases-apply g l = 8 * l.levels + 4
+decreases-apply g l = 10 * l.levels + 4
 
 abbrev pub decreases-at_ranks : goal.decreases-at_ranks
-decreases-at_ranks g l = 8 * l.levels + 3
+decreases-at_ranks g l = 10 * l.levels + 3
 
 abbrev pub decreases-in_cells : goal.decreases-in_cells
-decreases-in_cells g l = 8 * l.levels + 2
+decreases-in_cells g l = 10 * l.levels + 2
 
 abbrev pub decreases-on_fills : goal.decreases-on_fills
-decreases-on_fills g l = 8 * l.levels + 1
+decreases-on_fills g l = 10 * l.levels + 1
 
 abbrev pub decreases-each_cell : goal.decreases-each_cell
-decreases-each_cell g l = 8 * l.levels + 1
+decreases-each_cell g l = 10 * l.levels + 1
 
 abbrev pub decreases-nest : goal.decreases-nest
-decreases-nest g l = 8 * l.levels
+decreases-nest g l = 10 * l.levels
 
 abbrev pub decreases-descend : goal.decreases-descend
-decreases-descend g l = 8 * l.levels + 7
+decreases-descend g l = 10 * l.levels + 9
+
+abbrev pub decreases-unfold : goal.decreases-unfold
+decreases-unfold g l = 10 * l.levels + 8
+
+abbrev pub decreases-plan : goal.decreases-plan
+decreases-plan g l = 10 * l.levels + 7
 
 abbrev pub decreases-repeat : goal.decreases-repeat
-decreases-repeat g l = 8 * l.levels + 5
+decreases-repeat g l = 10 * l.levels + 5
 
 abbrev pub decreases-follow : goal.decreases-follow
-decreases-follow g l = 8 * l.levels + 6
+decreases-follow g l = 10 * l.levels + 6
 
 abbrev pub invariant-follow-loop-at : goal.invariant-follow-loop-at
 invariant-follow-loop-at g l = Stage record { leads = g.U.Uses.leads; refuses = g.U.Uses.refuses; stays = g.met.U.Uses.stays; joins = g.met.U.Uses.joins } l.fn.self (ran (applied l.levels) (rest l.fn.plan)) l.self (ran (applied l.levels) (rest l.at))

@@ -1,0 +1,5 @@
+pub mod Backward
+pub mod Forward
+pub mod Laws
+pub mod Steps
+pub mod Verbs
