@@ -1,5 +1,5 @@
 -- The words of a block are as many as are counted.
-use Rattle.std.proofs.Common.{ℕ, suc, ◌≡◌, ◌+◌, List, [], ◌∷◌, length, refl, arith}
+use Rattle.std.proofs.Common.{◌≡◌, ◌+◌, List, [], ◌∷◌, length, arith}
 use Rattle.jexplicit.specs.declared.kind.Kind.{Kind}
 use Rattle.jexplicit.specs.declared.kind.Kind.TheVariants as kind
 use Rattle.jexplicit.specs.Grammar.{Text, Otherwise, Cases, spell, spell_otherwise, spell_cases}

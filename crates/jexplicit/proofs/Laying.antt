@@ -4,7 +4,7 @@ use Rattle.jcontrol.specs.declared.prepared.Prepared.{Prepared}
 use Rattle.jcontrol.specs.declared.prepared.Act.TheVariants as act
 use Rattle.jcontrol.specs.Laid.{Around, Laid, LaidCases}
 use Rattle.jcontrol.specs.Block.{Block, Cases as CaseBlocks}
-use Rattle.jcontrol.specs.Block.Cases.{Case as TakenCase, Always}
+use Rattle.jcontrol.specs.Block.Cases.{Case as TakenCase}
 use Rattle.jexplicit.specs.declared.kind.Kind.{Kind}
 use Rattle.jexplicit.specs.declared.kind.Kind.TheVariants as kind
 use Rattle.jexplicit.specs.declared.kind.Looping.TheVariants as looping

@@ -1,5 +1,5 @@
 -- Reading with what is known of each open group is reading.
-use Rattle.std.proofs.Common.{ℕ, ◌≡◌, ◌<◌, ◌≤◌, ◌+◌, List, [], ◌∷◌, Bool, true, false, ◌&&◌, cond, Option, Some, None, drop, get_or, length, refl, sym, ap, subst, ◌∙◌}
+use Rattle.std.proofs.Common.{ℕ, ◌≡◌, ◌<◌, ◌≤◌, ◌+◌, List, [], ◌∷◌, Bool, true, false, ◌&&◌, cond, Option, Some, None, drop, get_or, length, refl, sym, ap, ◌∙◌}
 use Rattle.std.proofs.lemmas.List.{at_drop_more, at_drop_all}
 use Rattle.jexplicit.specs.declared.kind.Kind.{Kind}
 use Rattle.jexplicit.specs.declared.reading.Change.{Change}
@@ -7,8 +7,8 @@ use Rattle.jexplicit.specs.declared.reading.Change.TheVariants as change
 use Rattle.jexplicit.specs.declared.reading.Part.{Part}
 use Rattle.jexplicit.specs.declared.reading.Part.TheVariants as part
 use Rattle.jexplicit.specs.declared.checking.Standing.{Standing}
-use Rattle.jexplicit.specs.Reading.{innermost, change_by, without, changed, in_loop, starts_sentence, may_stand, go_on, reads}
-use Rattle.jexplicit.specs.Standing.{innermost_of, inside_of, part_of, standing, rest_of, changed_by, go_on_by, reads_by}
+use Rattle.jexplicit.specs.Reading.{innermost, change_by, changed, in_loop, starts_sentence, may_stand, go_on, reads}
+use Rattle.jexplicit.specs.Standing.{innermost_of, inside_of, part_of, standing, changed_by, go_on_by, reads_by}
 
 abbrev standings : List Part → List Standing
 standings [] = []

@@ -2,7 +2,6 @@
 -- stands round it, and then, from the last one back, written with what is ahead of it.
 use Rattle.std.specs.Prelude.{ℕ, ◌≡◌, ◌+◌, ◌-◌, List, [], ◌∷◌, Bool, true, false, cond, Option, Some, None}
 use Rattle.jcontrol.specs.Laid.{IsBody}
-use Rattle.jcontrol.specs.Machine.{IsSound}
 use Rattle.jcontrol.specs.declared.prepared.Prepared.{Prepared}
 use Rattle.jcontrol.specs.declared.prepared.Act.{Act}
 use Rattle.jcontrol.specs.declared.prepared.Act.TheVariants as act

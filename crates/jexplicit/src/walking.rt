@@ -1,6 +1,6 @@
 //! Preparing a body: forward over its words, and then back.
 
-ghost use Rattle.std.specs.Prelude.{◌≡◌, ◌<◌, ◌≤◌, ◌+◌, ◌*◌, ◌^◌, ◌∷◌, [], reverse, All, IfOk, OnOk, IfSome, None, length, drop, false};
+ghost use Rattle.std.specs.Prelude.{◌≡◌, ◌<◌, ◌≤◌, ◌+◌, ◌*◌, ◌^◌, ◌∷◌, [], reverse, All, IfOk, OnOk, IfSome, Some, None, if◌then◌else◌, option_map, length, drop, false};
 ghost use Rattle.jcontrol.specs.Machine.{IsSound};
 ghost use Rattle.jcontrol.specs.declared.prepared.Act.TheVariants as act;
 ghost use Rattle.jexplicit.specs.Preparing.{IsPrepared, ahead_after, aheads_after, end_of_body, entered, inside_after, last_ahead, last_of, prepares, put, reached_after, saved_after, spots, start, starts_do, whole, without, without_ahead, word_of, written};
@@ -208,7 +208,11 @@ pub fn prepared(
     requires few { first + length kinds.now < 2 ^ 32 }
     ensures blocks { IfOk result (λ made. IfSome made (λ words. IsPrepared first kinds.now words.items)) }
     ensures sound { IfOk result (λ made. IfSome made (λ words. IsSound words.items)) }
+    ensures some { IfOk result (λ made. IfSome made (λ words. 0 < length words.items)) }
     ensures refused { IfOk result (λ made. made ≡ None → reads kinds.now [] ≡ false) }
+
+    // The same by the functions of the definitions.
+    ensures value { IfOk result (λ made. option_map (λ words. words.items) made ≡ (if reads kinds.now [] then Some (prepares first kinds.now) else None)) }
 {
     if !reads(alloc, kinds)? {
         return Ok(None);

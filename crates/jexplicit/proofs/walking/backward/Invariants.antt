@@ -1,6 +1,6 @@
 use Rattle.std.proofs.Common.{◌≡◌, ◌≤◌, drop, length}
 use Rattle.std.specs.Prelude.{reverse}
-use Rattle.jexplicit.specs.Preparing.{Written, written}
+use Rattle.jexplicit.specs.Preparing.{written}
 use Rattle.jexplicit.proofs.walking.backward.Given as goal
 
 abbrev pub invariant-loop-left : goal.invariant-loop-left

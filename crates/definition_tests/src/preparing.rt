@@ -1,4 +1,4 @@
-use crate::{Kind, Looping, prepared};
+use jexplicit::{Kind, Looping, prepared};
 use jcontrol::{Act, Prepared};
 use std::alloc::Global;
 use std::process::Abort;
