@@ -4,7 +4,7 @@ use Rattle.std.proofs.lemmas.List.{take_rest}
 use Rattle.jdata.specs.Limits.{most_atoms}
 use Rattle.jstruct.specs.Backward.{backward}
 use Rattle.jstruct.proofs.FromLast.{backward_more, backward-map, item_fits}
-use Rattle.jstruct.proofs.reversing.items_backwards.Goals as goal
+use Rattle.jstruct.proofs.reversing.runs_backwards.Goals as goal
 
 pub overflow_mul-rest : goal.overflow_mul-rest
 overflow_mul-rest g c = omega (arith, item_fits (c.args.count - 1 - c.loop-i.i) c.args.size c.args.count most_atoms (omega arith) c.requires.bound)
