@@ -1,5 +1,4 @@
 use Rattle.std.proofs.Common.{◌≡◌, ◌*◌, ◌∙◌, arith, ap, sym, refl, subst, length}
-use Rattle.jdata.specs.Limits.{IsArray}
 use Rattle.jdata.specs.Noun.{shape, kind, atoms, product}
 use Rattle.jdata.specs.Trees.{kind_of, atoms_of}
 use Rattle.jdata.proofs.Arrays.{few_atoms}
