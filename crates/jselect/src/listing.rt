@@ -78,13 +78,16 @@ fn numbers_named(alloc: Global, items: &[i64], numbers: &[i64]) -> Result<IntLis
     Ok(Sequence::of(picks))
 }
 
-/// Whether each number names a place among so many.
+/// Whether each number names a place among so many. All are looked at, so that the loop can be one
+/// of vectors.
 fn are_places(count: u64, numbers: &[i64]) -> bool
     ensures { result ≡ list_all (λ number. is_ok (place_of count number)) numbers.now }
 {
-    numbers
-        .iter()
-        .all(|&number| place_in(count, number).is_ok())
+    let mut all = true;
+    for &number in numbers {
+        all &= place_in(count, number).is_ok();
+    }
+    all
 }
 
 /// What each number names among these, and 0 for one that names nothing.
