@@ -9,16 +9,16 @@ use Rattle.std.specs.Ordering.{int_cmp}
 use Rattle.std.proofs.Common.{sym, ◌∙◌, ap, refl, subst}
 use Rattle.jdata.specs.Match.{IsMatch, plain, plain_atom}
 use Rattle.jdata.specs.Noun.{noun, shape, kind, atoms, product}
-use Rattle.jdata.specs.declared.noun.Atom.{Atom, Atom-F, out-Atom}
+use Rattle.jdata.specs.declared.noun.Atom.{Atom, out-Atom}
 use Rattle.jdata.specs.declared.noun.Atom.TheVariants as atom
 use Rattle.jdata.specs.declared.noun.Noun.{Noun}
 use Rattle.jdata.proofs.Lists.{range-map}
 use Rattle.jdata.proofs.Matching.{match_atoms, ints_back, chars_back}
-use Rattle.jselect.specs.Items.{item_count, item_axes, list_axes}
+use Rattle.jselect.specs.Items.{item_count, list_axes}
 use Rattle.jsearch.specs.Finding.{item}
 use Rattle.jsearch.specs.Grades.{IsGrade, in_order}
 use Rattle.jsearch.specs.Laws.{EachHasOneGrade, EqualItemsMatch}
-use Rattle.jsearch.specs.Order.{compared, number_of, numbers_in, rising, falling, lists_in, by_keys}
+use Rattle.jsearch.specs.Order.{compared, number_of, numbers_in, rising, falling, lists_in}
 use Rattle.jsearch.specs.declared.ordering.Direction.TheVariants.{Rising, Falling}
 use Rattle.jsearch.proofs.KeyLists.{map-map}
 use Rattle.jsearch.proofs.OneGrade.{IsStrict, one_grade, graded_is}

@@ -1,15 +1,13 @@
 -- Two arrays match exactly where their codes are equal.
-use Rattle.std.specs.Prelude.{ℕ, zero, suc, ℤ, pos, Bool, ◌≡◌, List, [], ◌∷◌, ◌++◌, length, map}
-use Rattle.std.specs.Ordering.{int_eq}
-use Rattle.std.specs.Bool.{Decides}
+use Rattle.std.specs.Prelude.{ℕ, ℤ, pos, ◌≡◌, List, [], ◌∷◌, ◌++◌, length, map}
 use Rattle.std.proofs.Common.{sym, ◌∙◌, ap, refl, subst, arith}
 use Rattle.std.proofs.lemmas.List.{append_assoc, length-map}
 use Rattle.jdata.specs.Noun.{noun, shape, kind, atoms}
-use Rattle.jdata.specs.Match.{IsMatch, plain, plain_atom, plain_kind}
+use Rattle.jdata.specs.Match.{plain, plain_atom, plain_kind}
 use Rattle.jdata.specs.declared.noun.Kind.{Kind}
 use Rattle.jdata.specs.declared.noun.Kind.TheVariants as sort
-use Rattle.jdata.specs.declared.noun.Noun.{Noun, Noun-F, roll-Noun, ind-Noun, fold-roll-Noun, fold_out-Noun}
-use Rattle.jdata.specs.declared.noun.Atom.{Atom, Atom-F, map-Atom, roll-Atom, out-Atom, roll-out-Atom, ind-Atom, fold-roll-Atom}
+use Rattle.jdata.specs.declared.noun.Noun.{Noun, Noun-F, roll-Noun, ind-Noun, fold_out-Noun}
+use Rattle.jdata.specs.declared.noun.Atom.{Atom, Atom-F, map-Atom, roll-Atom, out-Atom, roll-out-Atom, fold-roll-Atom}
 use Rattle.jdata.specs.declared.noun.Atom.TheOpen as one
 use Rattle.jdata.specs.declared.noun.Atom.TheVariants as atom
 use Rattle.jdata.specs.declared.path.PyxId.{PyxId}

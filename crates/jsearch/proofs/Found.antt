@@ -1,15 +1,14 @@
 -- Numbers found for cells, as arrays.
-use Rattle.std.specs.Prelude.{ℕ, zero, suc, ◌+◌, ◌-◌, ◌*◌, ◌^◌, ◌<◌, ◌≤◌, ◌≡◌, ◌==◌, not, nat_lt, ℤ, pos, Bool, true, false, cond, List, [], ◌∷◌, length, map, take, reverse, get_or, Ok}
-use Rattle.std.specs.List.{range_with_len, position_or_len}
+use Rattle.std.specs.Prelude.{ℕ, zero, suc, ◌-◌, ◌^◌, ◌<◌, ◌≤◌, ◌≡◌, ◌==◌, nat_lt, ℤ, pos, Bool, true, false, cond, List, [], ◌∷◌, length, map, take, reverse, get_or}
+use Rattle.std.specs.List.{range_with_len}
 use Rattle.std.proofs.Common.{arith, sym, ◌∙◌, ap, refl, subst}
 use Rattle.std.proofs.lemmas.List.Sums.{prefix_len-le-length}
 use Rattle.std.proofs.lemmas.List.FromFn.{length-map-range_with_len, get_or-map-range_with_len}
-use Rattle.jdata.specs.Limits.{IsArray, most_atoms}
-use Rattle.jdata.specs.Noun.{noun, shape, product, extent}
+use Rattle.jdata.specs.Limits.{IsArray}
+use Rattle.jdata.specs.Noun.{noun, shape, product}
 use Rattle.jdata.specs.Tabulated.{tabulated}
 use Rattle.jdata.specs.declared.noun.Noun.{Noun}
 use Rattle.jdata.specs.declared.noun.Kind.TheVariants as sort
-use Rattle.jdata.specs.declared.noun.Atom.{Atom}
 use Rattle.jdata.specs.declared.noun.Atom.TheVariants as atom
 use Rattle.jdata.proofs.Extents.{product_at_most, parts_are_within}
 use Rattle.jdata.proofs.Lists.{same_map}

@@ -1,5 +1,5 @@
 -- What a sort of the items of an array answers.
-use Rattle.std.specs.Prelude.{ℕ, ◌*◌, ◌<◌, ◌≤◌, ◌≡◌, ◌||◌, max, ℤ, pos, Bool, true, false, List, [], ◌∷◌, length, map, take, drop, Result, Ok, Err, IfOk}
+use Rattle.std.specs.Prelude.{ℕ, ◌*◌, ◌<◌, ◌≤◌, ◌≡◌, ◌||◌, ℤ, pos, Bool, true, false, List, [], ◌∷◌, length, map, take, drop, Result, Ok, Err}
 use Rattle.std.specs.List.{range_with_len}
 use Rattle.std.specs.Cmp.Lexicographic.{slice_cmp}
 use Rattle.std.specs.Ordering.{int_cmp, nat_cmp, ordering_then}
@@ -27,7 +27,7 @@ use Rattle.jselect.specs.Items.{item_count, list_axes}
 use Rattle.jselect.specs.Listing.{items_named}
 use Rattle.jselect.proofs.Choices.{chosen, otherwise}
 use Rattle.jsearch.specs.Finding.{item}
-use Rattle.jsearch.specs.Grades.{in_order, graded, numbers_graded, grade, sorted, items_in, HasItems, GradedAs}
+use Rattle.jsearch.specs.Grades.{in_order, numbers_graded, items_in, HasItems, GradedAs}
 use Rattle.jsearch.specs.Listed.{whole, cell_count}
 use Rattle.jsearch.specs.Order.{has_order, number_of, numbers_in, by_keys, in_direction, lists_in}
 use Rattle.jsearch.specs.Steps.{place_list}

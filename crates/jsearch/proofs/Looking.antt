@@ -1,5 +1,5 @@
 -- Cells are looked up by their codes.
-use Rattle.std.specs.Prelude.{ℕ, suc, ◌+◌, ℤ, ◌≡◌, ◌↔◌, IsTrue, not, Bool, List, [], ◌∷◌, ◌++◌, length, map, reverse, cond}
+use Rattle.std.specs.Prelude.{ℕ, ◌+◌, ℤ, ◌≡◌, ◌↔◌, IsTrue, not, Bool, List, [], ◌∷◌, ◌++◌, length, map, reverse, cond}
 use Rattle.std.specs.List.{range_with_len, position_or_len}
 use Rattle.std.specs.Ordering.{int_eq}
 use Rattle.std.specs.Bool.{Decides}

@@ -1,5 +1,5 @@
 -- The answers of an interval index.
-use Rattle.std.specs.Prelude.{ℕ, ◌≡◌, ◌&&◌, ◌||◌, nat_le, ℤ, pos, Bool, true, false, List, length, map, Result, Ok, Err}
+use Rattle.std.specs.Prelude.{ℕ, ◌≡◌, ◌&&◌, ◌||◌, nat_le, ℤ, pos, Bool, true, false, List, length, map, Ok, Err}
 use Rattle.std.proofs.Common.{sym, ◌∙◌, ap, refl}
 use Rattle.std.proofs.lemmas.List.{length-map}
 use Rattle.jdata.specs.Limits.{IsArray}

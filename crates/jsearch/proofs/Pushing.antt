@@ -6,9 +6,7 @@ use Rattle.std.proofs.Math.Nat.{mul-le-mul_left, mul-le-mul_right}
 use Rattle.jdata.proofs.Extents.{extent_some}
 use Rattle.jdata.specs.Noun.{extent, noun}
 use Rattle.jdata.specs.declared.noun.Kind.{Kind}
-use Rattle.jdata.specs.Limits.{most_atoms}
-use Rattle.jdata.specs.Trees.{atom_of}
-use Rattle.jdata.specs.declared.noun.Atom.{Atom, Atom-F, map-Atom, roll-Atom, fold-roll-Atom}
+use Rattle.jdata.specs.declared.noun.Atom.{Atom, fold-roll-Atom}
 use Rattle.jdata.specs.declared.noun.Noun.{Noun}
 use Rattle.jdata.specs.declared.noun.Atom.TheOpen as one
 use Rattle.jdata.specs.declared.noun.Atom.TheVariants as atom

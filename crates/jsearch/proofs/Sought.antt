@@ -1,10 +1,10 @@
 -- The first place of a key in a list, found from the list's end.
-use Rattle.std.specs.Prelude.{ℕ, zero, suc, ◌+◌, ◌<◌, ◌≡◌, Bool, true, false, cond, not, Option, Some, None, unwrap_or, List, [], ◌∷◌, length, drop, get_or, reverse}
+use Rattle.std.specs.Prelude.{ℕ, suc, ◌+◌, ◌<◌, ◌≡◌, Bool, true, false, cond, not, Option, Some, None, unwrap_or, List, [], ◌∷◌, length, drop, get_or, reverse}
 use Rattle.std.specs.List.{position_or_len, position_from}
 use Rattle.std.specs.Cmp.{IsEquivalence}
 use Rattle.std.proofs.lemmas.List.{at_drop_more, length-reverse}
 use Rattle.std.proofs.Math.ListN.{drop_of_length-le}
-use Rattle.std.proofs.Common.{arith, sym, ◌∙◌, ap, refl, add-zero}
+use Rattle.std.proofs.Common.{arith, sym, ◌∙◌, ap, refl}
 
 -- a place counted from another number on
 found_from : {K : Type 0} (t : K → Bool) (i : ℕ) (xs : List K) → unwrap_or (position_from t i xs) (i + length xs) ≡ i + position_or_len t xs

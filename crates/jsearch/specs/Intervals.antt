@@ -1,5 +1,5 @@
 -- Interval Index (NuVoc "I.", the dyad): how many numbers of a list in order stand before each number.
-use Rattle.std.specs.Prelude.{ℕ, ◌-◌, ◌&&◌, ◌||◌, nat_le, ℤ, pos, int_lt, int_le, Bool, true, if◌then◌else◌, List, [], ◌∷◌, length, map, count_by, slice_index_or, Result, Ok, Err}
+use Rattle.std.specs.Prelude.{ℕ, ◌-◌, ◌&&◌, ◌||◌, nat_le, ℤ, pos, int_lt, int_le, Bool, true, if◌then◌else◌, List, ◌∷◌, length, map, count_by, slice_index_or, Result, Ok, Err}
 use Rattle.jdata.specs.Noun.{noun, shape}
 use Rattle.jdata.specs.declared.fault.Fault.{Fault}
 use Rattle.jdata.specs.declared.fault.Fault.TheVariants as fault

@@ -1,5 +1,6 @@
 //! `i.`: the places of an array of these axes.
 
+ghost use Rattle.std.specs.Int.{cast_signed, w64};
 ghost use Rattle.std.specs.Prelude.{◌≡◌, ◌<◌, ◌≤◌, ◌+◌, ◌-◌, ◌*◌, suc, if◌then◌else◌, IfOk, map, pos};
 ghost use Rattle.std.specs.List.{range_with_len};
 ghost use Rattle.jdata.specs.Answers.{Answers};
@@ -15,7 +16,7 @@ use jdata::{
     Fault, IntList, Leaves, MAX_RANK, NoMemory, Tree, Trouble, product_of, product_within,
 };
 use jselect::{are_counts, limited};
-use std::alloc::Global;
+use std::alloc::{AllocError, Global};
 
 /// The places of an array of these axes in ravel order, reversed along each axis with a negative
 /// number. Faults: Domain, Limit.
@@ -83,16 +84,20 @@ fn places(alloc: Global, numbers: &[i64], axes: &[u64], count: u64) -> Result<Ve
     Ok(places)
 }
 
+/// The numbers from 0 on.
 fn counted_up(alloc: Global, count: u64) -> Result<Vec<i64>, NoMemory>
     requires { count ≤ most_atoms }
     ensures { IfOk result (λ v. v.items ≡ map pos (range_with_len 0 count)) }
 {
-    let mut places = Vec::with_capacity(alloc, count as usize)?;
-    for place in 0..count {
-        let number = integer(place);
-        places.push(number)?;
-    }
+    let places = signed_below(alloc, count)?;
     Ok(places)
+}
+
+/// The numbers from 0 on, by their bits.
+fn signed_below(alloc: Global, count: u64) -> Result<Vec<i64>, AllocError>
+    ensures { IfOk result (λ v. v.items ≡ map (cast_signed w64) (range_with_len 0 count)) }
+{
+    (0..count).map(|place| place.cast_signed()).collect(alloc)
 }
 
 /// The place of the index that is the turned one of the index at a place.

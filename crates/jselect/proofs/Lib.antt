@@ -6,3 +6,4 @@ pub mod Named
 pub mod NamedItems
 pub mod Picked
 pub mod Runs
+pub mod SingleItems

@@ -168,7 +168,7 @@ named_item_of y m (Err why) a e =
     let number = ap (number_named (m ∷ [])) (list_axes_is (shape y)) ∙ numbered_none (item_count y) (item_axes y) m why e in
     not_named (m ∷ []) (as_list y) why (one_axis_more y) number
 
-each_after : (g : ℕ → Noun) (r : Result ℕ Fault) (s : Result (List ℕ) Fault) →
+pub each_after : {A : Type 0} (g : ℕ → A) (r : Result ℕ Fault) (s : Result (List ℕ) Fault) →
     and_then (and_then r (λ p. Ok (g p))) (λ v. in_front v (and_then s (λ ps. Ok (map g ps)))) ≡ and_then (and_then r (λ p. in_front p s)) (λ ps. Ok (map g ps))
 each_after g (Ok p) (Ok ps) = refl
 each_after g (Ok p) (Err why) = refl

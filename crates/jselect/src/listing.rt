@@ -1,15 +1,18 @@
 //! Items that integers name, many at once.
 
-ghost use Rattle.std.specs.Prelude.{◌≡◌, ◌+◌, ◌*◌, ◌<◌, ◌≤◌, ◌++◌, IfOk, length, map};
-ghost use Rattle.std.specs.List.{All};
+ghost use Rattle.std.specs.Prelude.{◌≡◌, ◌+◌, ◌*◌, ◌≤◌, ◌++◌, pos, IfOk, length, map};
+ghost use Rattle.std.specs.List.{All, list_all};
+ghost use Rattle.std.specs.Result.{is_ok, result_unwrap_or};
 ghost use Rattle.jdata.specs.Answers.{Answers};
-ghost use Rattle.jdata.specs.Firsts.{all_or_first};
+ghost use Rattle.jdata.specs.Firsts.{all_or_first, and_then};
 ghost use Rattle.jdata.specs.Leaf.{kind_in, atoms_in};
-ghost use Rattle.jdata.specs.Noun.{product};
+ghost use Rattle.jdata.specs.Limits.{limited as limited_noun};
+ghost use Rattle.jdata.specs.Noun.{noun, product};
 ghost use Rattle.jdata.specs.Trees.{kind_of, atoms_of};
 ghost use Rattle.jdata.specs.declared.noun.Kind.TheVariants as sort;
 ghost use Rattle.jdata.specs.declared.noun.Atom.TheVariants as atom;
 ghost use Rattle.jselect.specs.Listing as listing;
+ghost use Rattle.jselect.specs.Listing.{number_named};
 ghost use Rattle.jselect.specs.Picking.{runs};
 ghost use Rattle.jselect.specs.Places.{place_in as place_of};
 
@@ -22,11 +25,92 @@ use jdata::{
     Fault, IntList, Item, Leaf, Leaves, NoMemory, Sequence, Tree, Trouble, product_of,
     product_within,
 };
-use std::alloc::Global;
+use std::alloc::{AllocError, Global};
 
 /// The items of `y` that the numbers name, where negative ones count from the end, as an array with
 /// these axes before those of an item. Faults: Index, then Limit.
 pub fn items_named(
+    alloc: Global,
+    room: &Room,
+    axes: &[u64],
+    numbers: &[i64],
+    y: &Array,
+) -> Result<Tree, Trouble>
+    requires { length numbers.now ≡ product axes.now }
+    ensures { Answers (listing.items_named axes.now numbers.now y.now.noun) result }
+{
+    let item = further_axes(y.shape(room));
+    let cell = product_of(item) as usize;
+    match (y.leaf(room), cell) {
+        (Leaf::Int(items), 1) => single_named(alloc, axes, item, items, numbers),
+        _ => runs_named(alloc, room, axes, numbers, y),
+    }
+}
+
+/// Numbers that are items, each picked where it is named.
+fn single_named(
+    alloc: Global,
+    axes: &[u64],
+    item: &[u64],
+    items: &[i64],
+    numbers: &[i64],
+) -> Result<Tree, Trouble>
+    requires whole { length numbers.now ≡ product axes.now }
+    requires single { product item.now ≡ 1 }
+    ensures { Answers (and_then (all_or_first (map (number_named items.now) numbers.now)) (λ picks. limited_noun (noun (axes.now ++ item.now) sort.Int (map atom.Int picks)))) result }
+{
+    let picks = match numbers_named(alloc, items, numbers) {
+        Ok(picks) => picks,
+        Err(trouble) => return Err(trouble),
+    };
+    let shape = both_axes(alloc, axes, item)?;
+    limited(shape, Leaves::Int(picks))
+}
+
+/// What each number names among these.
+fn numbers_named(alloc: Global, items: &[i64], numbers: &[i64]) -> Result<IntList, Trouble>
+    ensures { Answers (all_or_first (map (number_named items.now) numbers.now)) result }
+{
+    if !are_places(items.len() as u64, numbers) {
+        return Err(Trouble::Fault(Fault::Index));
+    }
+    let picks = picked(alloc, items, numbers)?;
+    Ok(Sequence::of(picks))
+}
+
+/// Whether each number names a place among so many. All are looked at, so that the loop can be one
+/// of vectors.
+fn are_places(count: u64, numbers: &[i64]) -> bool
+    ensures { result ≡ list_all (λ number. is_ok (place_of count number)) numbers.now }
+{
+    let mut all = true;
+    for &number in numbers {
+        all &= place_in(count, number).is_ok();
+    }
+    all
+}
+
+/// What each number names among these, and 0 for one that names nothing.
+fn picked(alloc: Global, items: &[i64], numbers: &[i64]) -> Result<Vec<i64>, AllocError>
+    ensures { IfOk result (λ picks. picks.items ≡ map (λ number. result_unwrap_or (number_named items.now number) (pos 0)) numbers.now) }
+{
+    numbers
+        .iter()
+        .map(|&number| pick_or_zero(items, number))
+        .collect(alloc)
+}
+
+fn pick_or_zero(items: &[i64], number: i64) -> i64
+    ensures { result ≡ result_unwrap_or (number_named items.now number) (pos 0) }
+{
+    match place_in(items.len() as u64, number) {
+        Ok(place) => items[place as usize],
+        Err(_) => 0,
+    }
+}
+
+/// Runs of atoms that are items.
+fn runs_named(
     alloc: Global,
     room: &Room,
     axes: &[u64],
@@ -95,41 +179,10 @@ fn items_at(
     ensures atoms { IfOk result (λ l. atoms_of l ≡ runs cell (atoms_in atoms.entry) places.now) }
 {
     match atoms {
-        Leaf::Int(numbers) => numbers_at(alloc, numbers, places, cell, count),
+        Leaf::Int(numbers) => runs_at(alloc, numbers, places, cell, count),
         Leaf::Char(bytes) => runs_at(alloc, bytes, places, cell, count),
         Leaf::Cell(cells) => runs_at(alloc, cells, places, cell, count),
     }
-}
-
-/// Numbers that are items go one by one, which is faster than by ranges of one.
-fn numbers_at(
-    alloc: Global,
-    numbers: &[i64],
-    places: &[u64],
-    cell: usize,
-    count: usize,
-) -> Result<Leaves, NoMemory>
-    requires { All (λ p. p * cell + cell ≤ length numbers.now) places.now }
-    ensures kind { IfOk result (λ l. kind_of l ≡ sort.Int) }
-    ensures atoms { IfOk result (λ l. atoms_of l ≡ runs cell (map atom.Int numbers.now) places.now) }
-{
-    if cell == 1 {
-        single_numbers(alloc, numbers, places)
-    } else {
-        runs_at(alloc, numbers, places, cell, count)
-    }
-}
-
-fn single_numbers(alloc: Global, numbers: &[i64], places: &[u64]) -> Result<Leaves, NoMemory>
-    requires { All (λ p. p * 1 + 1 ≤ length numbers.now) places.now }
-    ensures kind { IfOk result (λ l. kind_of l ≡ sort.Int) }
-    ensures atoms { IfOk result (λ l. atoms_of l ≡ runs 1 (map atom.Int numbers.now) places.now) }
-{
-    let mut picked = Vec::with_capacity(alloc, places.len())?;
-    for &place in places {
-        picked.push(numbers[place as usize])?;
-    }
-    Ok(Leaves::Int(IntList::of(picked)))
 }
 
 fn runs_at<T: Item>(

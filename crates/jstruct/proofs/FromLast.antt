@@ -1,8 +1,8 @@
 -- Items from the last on.
-use Rattle.std.proofs.Common.{◌≡◌, ℕ, ◌+◌, ◌-◌, ◌*◌, ◌<◌, ◌≤◌, zero, suc, List, [], ◌∷◌, ◌++◌, length, get_or, take, drop, map, replicate, refl, sym, ap, ◌∙◌, arith}
+use Rattle.std.proofs.Common.{◌≡◌, ℕ, ◌+◌, ◌-◌, ◌*◌, ◌<◌, ◌≤◌, zero, suc, List, [], ◌∷◌, ◌++◌, length, get_or, take, drop, map, replicate, reverse, refl, sym, ap, ◌∙◌, arith}
 use Rattle.std.specs.List.{range_with_len, flat_map}
 use Rattle.std.proofs.Math.Nat.{mul-le-mul_right}
-use Rattle.std.proofs.lemmas.List.{length-drop}
+use Rattle.std.proofs.lemmas.List.{length-drop, reverse-append}
 use Rattle.std.proofs.lemmas.List.FromFn.{length-map-range_with_len}
 use Rattle.jdata.specs.Fills.{fill_of}
 use Rattle.jdata.specs.Indexes.{index_at, at_or}
@@ -111,3 +111,25 @@ pub item_is : (y : Noun) (at : ℕ) (axes : List ℕ) (k : Kind) (l : List Atom)
     l ≡ map (λ j. get_or (atoms y) (at * product (item_axes y) + j) (fill_of (kind y))) (range_with_len 0 (product (item_axes y))) →
     limited (noun axes k l) ≡ limited (item_at y at)
 item_is y at axes k l e f g = ap limited (same_noun axes (item_axes y) k (kind y) l _ e f g)
+
+-- one after another from the last on
+pub backward_one : {A : Type 0} (l : List A) (n : ℕ) → length l ≡ n → reverse l ≡ backward n 1 l
+unfolding backward
+backward_one [] zero h = refl
+backward_one [] (suc n) h = absurd (omega arith)
+backward_one (x ∷ l) zero h = absurd (omega arith)
+backward_one {A = A} (x ∷ l) (suc n) h =
+    let f : ℕ → List A = λ i. take 1 (drop ((suc n - suc i) * 1) (x ∷ l)) in
+    let one : suc n ≡ n + 1 = omega arith in
+    let none : (suc n - suc (0 + n)) * 1 ≡ 0 = omega arith in
+    reverse-append (x ∷ []) l
+    ∙ ap (λ r. r ++ x ∷ []) (backward_one l n (omega arith))
+    ∙ (λ k. same_over (λ i. take 1 (drop ((n - suc i) * 1) l)) f n
+    (λ i below. let e : suc ((n - suc i) * 1) ≡ (suc n - suc i) * 1 = omega arith in ap (λ j. take 1 (drop j (x ∷ l))) e) k
+    ++ ap (λ j. take 1 (drop j (x ∷ l))) (sym none) k)
+    ∙ sym (ap (λ m. flat_map f (range_with_len 0 m)) one ∙ over_more f 0 n)
+
+pub reversed_items : {A B : Type 0} (f : A → B) (l : List A) (count size : ℕ) → size ≡ 1 → length l ≡ count * size → map f (reverse l) ≡ backward count size (map f l)
+reversed_items f l count size one whole =
+    let long : length l ≡ count = whole ∙ ap (λ s. count * s) one ∙ (let e : count * 1 ≡ count = omega arith in e) in
+    ap (map f) (backward_one l count long) ∙ backward-map f count 1 l ∙ ap (λ s. backward count s (map f l)) (sym one)

@@ -1,13 +1,12 @@
 -- Layers, and arrays without atoms.
-use Rattle.std.proofs.Common.{◌≡◌, ℕ, ◌+◌, ◌-◌, ◌*◌, ◌<◌, ◌≤◌, zero, suc, Bool, true, false, cond, List, [], ◌∷◌, ◌++◌, length, map, replicate, max, refl, sym, ap, ◌∙◌, arith, Result, Ok, Err, inl, inr}
-use Rattle.std.specs.Prelude.{◌⊎◌, ◌&&◌, nat_lt, nat_le, if◌then◌else◌}
-use Rattle.std.specs.List.{range_with_len, list_all}
+use Rattle.std.proofs.Common.{◌≡◌, ℕ, ◌<◌, ◌≤◌, suc, Bool, true, false, cond, List, [], ◌∷◌, ◌++◌, length, replicate, refl, sym, ap, ◌∙◌, arith, Result, Ok, Err, inl, inr}
+use Rattle.std.specs.Prelude.{◌⊎◌, ◌&&◌, nat_le, if◌then◌else◌}
+use Rattle.std.specs.List.{list_all}
 use Rattle.std.proofs.lemmas.Bool.{lt-ltb, le-ltb, lt-leb}
 use Rattle.std.proofs.lemmas.List.{nil_from_length}
-use Rattle.std.proofs.lemmas.List.FromFn.{length-map-range_with_len}
 use Rattle.jdata.specs.Fills.{fill_of}
 use Rattle.jdata.specs.Kinds.{same_kind}
-use Rattle.jdata.specs.Limits.{checked, limited, is_within, most_axes, most_atoms, most_levels, IsShape, IsArray}
+use Rattle.jdata.specs.Limits.{checked, limited, most_axes, most_atoms, most_levels, IsArray}
 use Rattle.jdata.specs.Noun.{shape, kind, atoms, noun, product, extent, level}
 use Rattle.jdata.specs.declared.fault.Fault.{Fault}
 use Rattle.jdata.specs.declared.fault.Fault.TheVariants as fault
@@ -17,7 +16,7 @@ use Rattle.jdata.specs.declared.noun.Atom.{Atom}
 use Rattle.jdata.proofs.Arrays.{made}
 use Rattle.jdata.proofs.Levels.{level_is}
 use Rattle.jframe.specs.Assembly.{has_atoms, first_kind, common_kind, kinds_agree}
-use Rattle.jframe.specs.Joining.{joined_rank, whole_joined, items_joined}
+use Rattle.jframe.specs.Joining.{whole_joined}
 use Rattle.jframe.proofs.Assembling.{chosen, refused}
 use Rattle.jframe.proofs.Blocks.{item_rank, joined_of_a_kind, joined_of_kinds}
 use Rattle.jstruct.specs.Joins.{layer_axes, layer, laminated, as_kind}

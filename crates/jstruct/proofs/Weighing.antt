@@ -59,6 +59,25 @@ all_rows f (n ∷ ns) [] s items some same = absurd (omega arith)
 all_rows f (n ∷ ns) (w ∷ ws) s items some same =
     (λ k. rows_picked f w (take_rest (n ∷ ns) 1 k) (take_rest (w ∷ ws) 1 k) s items n) ∙ sym (picked_rows f n w ns ws s items)
 
+-- one axis, item by item
+pub run_more : {A : Type 0} (f : A) (w s i : ℕ) (items before : List A) →
+    (before ++ rows_picked f w [] [] s items i) ++ get_or items (s + i * w) f ∷ [] ≡ before ++ rows_picked f w [] [] s items (i + 1)
+run_more f w s i items before =
+    ap (λ r. (before ++ rows_picked f w [] [] s items i) ++ r) (picked_one f [] [] (s + i * w) items refl refl) ∙ rows_more f w [] [] s i items before
+
+pub whole_run : {A : Type 0} (f : A) (n w s : ℕ) (items : List A) → rows_picked f w [] [] s items n ≡ picked f (n ∷ []) (w ∷ []) s items
+whole_run f n w s items = sym (picked_rows f n w [] [] s items)
+
+alone : (l : List ℕ) → length l ≡ 1 → get_or l 0 0 ∷ [] ≡ l
+alone [] h = absurd (omega arith)
+alone (x ∷ []) h = refl
+alone (x ∷ (y ∷ l)) h = absurd (omega arith)
+
+-- where one axis is left
+pub picked_run : {A : Type 0} (f : A) (ns ws : List ℕ) (s : ℕ) (items : List A) → length ns ≡ 1 → length ws ≡ length ns →
+    picked f (get_or ns 0 0 ∷ []) (get_or ws 0 0 ∷ []) s items ≡ picked f ns ws s items
+picked_run f ns ws s items one same = λ i. picked f (alone ns one i) (alone ws (same ∙ one) i) s items
+
 pub rest_short : (ns : List ℕ) (m : ℕ) → ((k : ℕ) → get_or ns k 0 ≤ m) → (k : ℕ) → get_or (rest ns) k 0 ≤ m
 rest_short ns m h k =
     let e : get_or (rest ns) k 0 ≡ get_or ns (1 + k) 0 = ap (λ l. get_or l k 0) (take_rest ns 1) ∙ get_or-drop 1 ns k 0 in

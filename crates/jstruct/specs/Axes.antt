@@ -1,5 +1,5 @@
 -- Transpose by axes (NuVoc "|:"): the axes that x names stand behind the others, in the order of x.
-use Rattle.std.specs.Prelude.{ℕ, suc, ◌==◌, nat_lt, not, ℤ, pos, negsuc, ◌-ℤ◌, Bool, false, if◌then◌else◌, List, [], ◌∷◌, ◌++◌, length, map, get_or, Result, Ok, Err}
+use Rattle.std.specs.Prelude.{ℕ, suc, ◌==◌, nat_lt, not, ℤ, pos, negsuc, ◌-ℤ◌, Bool, false, if◌then◌else◌, List, ◌∷◌, ◌++◌, length, map, get_or, Result, Ok, Err}
 use Rattle.std.specs.List.{range_with_len, filter, list_all, list_any}
 use Rattle.std.specs.Ordering.{int_eq}
 use Rattle.std.specs.Set.{distinct_count}

@@ -1,7 +1,6 @@
 //! Items in reverse order.
 
 ghost use Rattle.std.specs.Prelude.{◌≡◌, ◌≤◌, ◌*◌, IfOk, length, map};
-ghost use Rattle.jdata.specs.Leaf.{kind_in, atoms_in};
 ghost use Rattle.jdata.specs.Limits.{most_atoms};
 ghost use Rattle.jdata.specs.Trees.{kind_of, atoms_of};
 ghost use Rattle.jarray.specs.Placed.{Gives};
@@ -11,33 +10,56 @@ ghost use Rattle.jstruct.specs.Backward.{backward};
 use crate::made::array_of;
 use crate::shaping::{item_count, item_size};
 use jarray::{Array, Room};
-use jdata::{Item, Leaf, Leaves, NoMemory, Trouble};
+use jdata::{Item, Leaves, NoMemory, Trouble};
 use std::alloc::Global;
 
-/// `|. y`: the items in reverse order.
+/// `|. y`: the items in reverse order. Atoms that are items change places where they lie.
 pub fn reverse(alloc: Global, room: &mut Room, y: Array) -> Result<Array, Trouble>
     ensures { Gives (meant.reversed y.noun) result }
 {
-    let axes = y.shape(room);
-    let atoms = backwards(alloc, y.leaf(room), item_count(axes), item_size(axes))?;
-    let shape = Vec::from_slice(alloc, axes)?;
+    let tree = match y.into_tree(alloc, room) {
+        Ok(tree) => tree,
+        Err(NoMemory) => return Err(Trouble::NoMemory),
+    };
+    let count = item_count(tree.shape());
+    let size = item_size(tree.shape());
+    let (shape, leaves) = tree.into_parts();
+    let atoms = backwards(alloc, leaves, count, size)?;
     array_of(shape, atoms)
 }
 
-fn backwards(alloc: Global, atoms: Leaf<'_>, count: u64, size: u64) -> Result<Leaves, NoMemory>
-    requires whole { length (atoms_in atoms) ≡ count * size }
+fn backwards(alloc: Global, atoms: Leaves, count: u64, size: u64) -> Result<Leaves, NoMemory>
+    requires whole { length (atoms_of atoms) ≡ count * size }
     requires bound { count * size ≤ most_atoms }
-    ensures kind { IfOk result (λ l. kind_of l ≡ kind_in atoms.entry) }
-    ensures atoms { IfOk result (λ l. atoms_of l ≡ backward count size (atoms_in atoms.entry)) }
+    ensures kind { IfOk result (λ l. kind_of l ≡ kind_of atoms) }
+    ensures atoms { IfOk result (λ l. atoms_of l ≡ backward count size (atoms_of atoms)) }
 {
     match atoms {
-        Leaf::Int(numbers) => items_backwards(alloc, numbers, count, size),
-        Leaf::Char(bytes) => items_backwards(alloc, bytes, count, size),
-        Leaf::Cell(cells) => items_backwards(alloc, cells, count, size),
+        Leaves::Int(numbers) => items_backwards(alloc, numbers.into_items(), count, size),
+        Leaves::Char(bytes) => items_backwards(alloc, bytes.into_items(), count, size),
+        Leaves::Cell(cells) => items_backwards(alloc, cells.into_items(), count, size),
     }
 }
 
 fn items_backwards<T: Item>(
+    alloc: Global,
+    mut items: Vec<T>,
+    count: u64,
+    size: u64,
+) -> Result<Leaves, NoMemory>
+    requires whole { length items.items ≡ count * size }
+    requires bound { count * size ≤ most_atoms }
+    ensures kind { IfOk result (λ l. kind_of l ≡ T.kind) }
+    ensures atoms { IfOk result (λ l. atoms_of l ≡ backward count size (map T.atom items.items)) }
+{
+    if size == 1 {
+        items.reverse();
+        return Ok(T::leaves_of(items));
+    }
+    runs_backwards(alloc, items.as_slice(), count, size)
+}
+
+fn runs_backwards<T: Item>(
     alloc: Global,
     items: &[T],
     count: u64,

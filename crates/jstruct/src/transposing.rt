@@ -100,6 +100,9 @@ fn pick<T: Item>(
     if axes.is_empty() {
         return push_item(alloc, items, start, into);
     }
+    if axes.len() == 1 {
+        return pick_run(alloc, axes[0], weights[0], start, items, into);
+    }
     pick_along(alloc, axes, weights, start, items, into)
 }
 
@@ -129,6 +132,29 @@ fn pick_along<T: Item>(
             items,
             into,
         ) {
+            Ok(()) => {}
+            Err(NoMemory) => return Err(NoMemory),
+        }
+    }
+    Ok(())
+}
+
+/// The items so far apart on one axis, from a place on: the last axis has a loop of its own.
+fn pick_run<T: Item>(
+    alloc: Global,
+    axis: u64,
+    weight: u64,
+    start: u64,
+    items: &[T],
+    into: &mut Vec<T>,
+) -> Result<(), NoMemory>
+    requires near { start + 2 ^ 54 ≤ 63 * 2 ^ 54 }
+    requires short { axis ≤ most_atoms }
+    requires light { weight ≤ most_atoms }
+    ensures { OnOk result (into.new.items ≡ into.old.items ++ picked_items T.blank (axis ∷ []) (weight ∷ []) start items.now) }
+{
+    for i in 0..axis {
+        match push_item(alloc, items, start + i * weight, into) {
             Ok(()) => {}
             Err(NoMemory) => return Err(NoMemory),
         }

@@ -1,6 +1,6 @@
-use Rattle.std.proofs.Common.{◌≤◌, ◌<◌, ◌+◌, ◌*◌, ◌≡◌, arith, subst, sym, ap, ◌∙◌, length, take, drop}
+use Rattle.std.proofs.Common.{◌≤◌, ◌<◌, ◌+◌, ◌*◌, arith, subst, sym, ap, ◌∙◌, length, take, drop}
 use Rattle.std.proofs.lemmas.List.{take_rest}
-use Rattle.jdata.specs.Leaf.{atoms_in, kind_in}
+use Rattle.jdata.specs.Leaf.{atoms_in}
 use Rattle.jdata.specs.Limits.{most_atoms, IsArray}
 use Rattle.jdata.specs.Noun.{extent, product, noun}
 use Rattle.jdata.proofs.Arrays.{few_atoms}

@@ -1,4 +1,4 @@
-use Rattle.std.proofs.Common.{◌≡◌, sym, subst, ap, ◌∙◌}
+use Rattle.std.proofs.Common.{sym, subst, ap, ◌∙◌}
 use Rattle.jdata.specs.Limits.{IsArray}
 use Rattle.jdata.specs.Noun.{noun}
 use Rattle.jselect.specs.Items.{list_axes}

@@ -1,4 +1,4 @@
-use Rattle.std.proofs.Common.{ℕ, ◌≡◌, Bool, true, false, ap, ◌∙◌, refl, get_or, eq-eqb, eqb}
+use Rattle.std.proofs.Common.{ℕ, ◌≡◌, Bool, true, false, ap, ◌∙◌, refl, get_or, eq-eqb}
 use Rattle.std.specs.Prelude.{◌==◌}
 use Rattle.std.proofs.lemmas.Bool.{eqb-true}
 use Rattle.jsearch.proofs.Classed.{own_yes, own_no}

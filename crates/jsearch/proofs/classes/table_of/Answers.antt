@@ -1,5 +1,4 @@
-use Rattle.std.proofs.Common.{ap, sym, ◌∙◌, subst, length, map, ◌<◌, ℕ, get_or, ◌∷◌, []}
-use Rattle.std.specs.Prelude.{filter, ◌==◌}
+use Rattle.std.proofs.Common.{ap, sym, ◌∙◌, subst, length, map, ◌<◌}
 use Rattle.std.specs.List.{range_with_len}
 use Rattle.jdata.specs.Limits.{most_atoms}
 use Rattle.jdata.specs.Noun.{extent}

@@ -1,9 +1,8 @@
-use Rattle.std.proofs.Common.{rules, w64, pos}
-use mir.Val.{SFits}
-use Rattle.jsearch.proofs.Pushed.{pushed}
+use Rattle.std.proofs.Common.{◌<◌, ◌^◌, ◌∙◌, arith, pos, w64}
+use Rattle.std.specs.Int.{cast_signed}
+use Rattle.std.proofs.Math.Facts.{to_z_pos}
+use Rattle.jdata.proofs.Lists.{same_map}
 use Rattle.jsearch.proofs.counting.counted_up.Goals as goal
 
-pub loop-place-preserved : goal.loop-place-preserved
-loop-place-preserved c =
-    let fits : SFits w64 c.integer-number.result = search rules in
-    pushed pos c.loop-place.place c.integer-number.result c.loop-place.places.items c.push.new.self.items fits c.in_ok-push.ensures.items c.integer-number.ensures c.loop-place.invariant
+pub returns : goal.returns
+returns c = c.in_ok-places.ensures ∙ same_map (cast_signed w64) pos c.args.count (pos 0) (λ p below. let small : p < 2 ^ 63 = omega (arith, c.requires) in to_z_pos w64 small)

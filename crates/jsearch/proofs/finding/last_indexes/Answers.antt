@@ -5,7 +5,7 @@ use Rattle.std.proofs.lemmas.List.FromFn.{length-map-range_with_len}
 use Rattle.std.proofs.lemmas.Result.{IfOk-weaker}
 use Rattle.jsearch.specs.Finding.{outer, items, last_place}
 use Rattle.jsearch.specs.Listed.{cell_in, cell_count, cells_in}
-use Rattle.jsearch.proofs.Found.{numbers_made, placed_for, places_fit, items_within, cells_within, first_within, last_within}
+use Rattle.jsearch.proofs.Found.{numbers_made, placed_for, places_fit, items_within, cells_within, last_within}
 use Rattle.jsearch.proofs.finding.last_indexes.Goals as goal
 
 pub last_places_in-requires-clause-among_frame : goal.last_places_in-requires-clause-among_frame

@@ -1,10 +1,9 @@
 use Rattle.std.proofs.Common.{Ok, ap, length, ℕ, ◌∙◌, map}
-use Rattle.std.specs.List.{range_with_len}
 use Rattle.std.specs.Prelude.{nat_lt}
 use Rattle.std.proofs.lemmas.List.{length-map}
 use Rattle.std.proofs.lemmas.List.FromFn.{length-map-range_with_len}
 use Rattle.std.proofs.lemmas.Result.{IfOk-weaker}
-use Rattle.jsearch.specs.Finding.{outer, items, is_item_of, first_place, truth}
+use Rattle.jsearch.specs.Finding.{outer, is_item_of, first_place, truth}
 use Rattle.jsearch.specs.Listed.{cell_in, cell_count, cells_in}
 use Rattle.jsearch.proofs.Found.{numbers_made, tested_for, items_within, cells_within}
 use Rattle.jsearch.proofs.finding.members.Goals as goal

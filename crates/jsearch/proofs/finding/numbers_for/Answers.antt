@@ -1,4 +1,4 @@
-use Rattle.std.proofs.Common.{subst, sym, ◌∙◌}
+use Rattle.std.proofs.Common.{subst, sym}
 use Rattle.jdata.specs.Limits.{IsShape}
 use Rattle.jdata.proofs.Extents.{frame_is_shape}
 use Rattle.jsearch.proofs.finding.numbers_for.Goals as goal

@@ -1,5 +1,4 @@
-use Rattle.std.proofs.Common.{ap, sym, ◌∙◌, subst, length, drop, ◌≤◌}
-use Rattle.jdata.specs.Limits.{most_atoms}
+use Rattle.std.proofs.Common.{ap, sym, ◌∙◌, drop}
 use Rattle.jdata.specs.Noun.{kind, atoms, shape, product}
 use Rattle.jdata.proofs.Arrays.{few_atoms}
 use Rattle.jsearch.specs.Listed.{whole}

@@ -1,4 +1,4 @@
-use Rattle.std.proofs.Common.{refl, arith, sym, subst, ◌<◌, ◌∙◌}
+use Rattle.std.proofs.Common.{refl, arith, ◌∙◌}
 use Rattle.jdata.specs.declared.noun.Atom.TheVariants as atom
 use Rattle.jsearch.specs.Order.{in_direction}
 use Rattle.jsearch.proofs.Graded.{nothing_has_order, nothing_is, boxes_have_none, not_graded}

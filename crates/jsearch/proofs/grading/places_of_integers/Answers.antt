@@ -1,4 +1,4 @@
-use Rattle.std.proofs.Common.{refl, pos}
+use Rattle.std.proofs.Common.{refl}
 use Rattle.jdata.specs.declared.noun.Atom.TheVariants as atom
 use Rattle.jsearch.specs.Order.{in_direction}
 use Rattle.jsearch.proofs.Alike.{int_number}

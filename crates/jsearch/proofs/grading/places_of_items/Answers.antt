@@ -1,4 +1,4 @@
-use Rattle.std.proofs.Common.{ap, sym, ◌∙◌, length}
+use Rattle.std.proofs.Common.{ap, ◌∙◌, length}
 use Rattle.std.proofs.lemmas.List.{length-map}
 use Rattle.jdata.specs.Leaf.{kind_in, atoms_in}
 use Rattle.jdata.specs.Trees.{atom_of}

@@ -1,4 +1,4 @@
-use Rattle.std.proofs.Common.{arith, rules, w64, ap, sym, ◌∙◌, pos, ◌<◌, ◌^◌}
+use Rattle.std.proofs.Common.{arith, rules, w64, ap, sym, ◌∙◌, pos}
 use mir.Val.{SFits}
 use Rattle.std.proofs.lemmas.Int.{to_z-of_z}
 use Rattle.std.specs.Prelude.{int_lt, count_by}

@@ -1,7 +1,6 @@
-use Rattle.std.proofs.Common.{ap, sym, ◌∙◌, subst, length, map, pos, ◌≡◌}
+use Rattle.std.proofs.Common.{sym, ◌∙◌, subst}
 use Rattle.jdata.specs.Limits.{IsShape}
-use Rattle.jdata.specs.Noun.{product}
-use Rattle.jsearch.proofs.Placing.{no_numbers, no_bounds, counts_made, counts_whole}
+use Rattle.jsearch.proofs.Placing.{no_numbers, no_bounds, counts_made}
 use Rattle.jsearch.proofs.intervals.counts_of.Goals as goal
 
 pub returns-in-None : goal.returns-in-None

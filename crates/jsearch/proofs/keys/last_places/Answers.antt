@@ -1,7 +1,6 @@
 use Rattle.std.proofs.Common.{ap, ◌∙◌, length, reverse}
 use Rattle.std.specs.Prelude.{unwrap_or}
 use Rattle.std.specs.List.{position_or_len, position_from}
-use Rattle.std.proofs.lemmas.List.{length-reverse}
 use Rattle.jsearch.specs.Finding.{from_end}
 use Rattle.jsearch.proofs.Sought.{found_back}
 use Rattle.jsearch.proofs.Pushing.{mapped_more}

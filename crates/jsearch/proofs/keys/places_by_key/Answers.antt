@@ -1,5 +1,4 @@
-use Rattle.std.proofs.Common.{arith, ◌≡◌, ◌+◌, ◌-◌, ◌<◌, ap, sym, ◌∙◌, length, drop, None, cond, get_or}
-use Rattle.std.specs.HashMap.{get}
+use Rattle.std.proofs.Common.{arith, ◌≡◌, ◌+◌, ◌-◌, ◌<◌, ap, ◌∙◌, length, drop}
 use Rattle.std.specs.Map.{lookup}
 use Rattle.std.specs.List.{position_from}
 use Rattle.jsearch.proofs.Sought.{stepped, ended}

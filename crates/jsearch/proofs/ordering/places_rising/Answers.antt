@@ -1,6 +1,5 @@
-use Rattle.std.proofs.Common.{ap, sym, ◌∙◌, subst, length, map, pos, ◌≤◌, ◌≡◌, IfOk}
+use Rattle.std.proofs.Common.{ap, sym, ◌∙◌, subst, map, pos, ◌≤◌, ◌≡◌, IfOk}
 use Rattle.std.specs.List.{range_with_len}
-use Rattle.std.proofs.lemmas.List.{length-map}
 use Rattle.jdata.specs.Limits.{most_atoms}
 use Rattle.jsearch.specs.Grades.{in_order}
 use Rattle.jsearch.specs.Order.{by_keys, lists_in}

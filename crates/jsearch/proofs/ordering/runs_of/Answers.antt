@@ -1,4 +1,4 @@
-use Rattle.std.proofs.Common.{arith, ◌*◌, take, drop}
+use Rattle.std.proofs.Common.{arith}
 use Rattle.jsearch.proofs.KeyLists.{run_within, next_run}
 use Rattle.jsearch.proofs.ordering.runs_of.Goals as goal
 

@@ -1,4 +1,4 @@
-use Rattle.std.proofs.Common.{ap, ◌∙◌, ◌≡◌, length, arith, sym}
+use Rattle.std.proofs.Common.{ap, ◌∙◌, ◌≡◌, length, arith}
 use Rattle.jdata.specs.Noun.{atoms}
 use Rattle.jdata.specs.Trees.{kind_of, atoms_of}
 use Rattle.jdata.proofs.Arrays.{no_error}

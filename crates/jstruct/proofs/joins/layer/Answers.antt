@@ -1,9 +1,9 @@
-use Rattle.std.proofs.Common.{◌≡◌, ap, ◌∙◌, Ok}
+use Rattle.std.proofs.Common.{◌≡◌, ap, ◌∙◌}
 use Rattle.jdata.specs.Limits.{checked}
-use Rattle.jdata.specs.Noun.{shape, noun}
-use Rattle.jdata.specs.Trees.{noun_of, kind_of, atoms_of}
+use Rattle.jdata.specs.Noun.{noun}
+use Rattle.jdata.specs.Trees.{kind_of, atoms_of}
 use Rattle.jdata.proofs.Arrays.{made, no_error}
-use Rattle.jstruct.specs.Joins.{layer, layer_axes}
+use Rattle.jstruct.specs.Joins.{layer}
 use Rattle.jstruct.proofs.Layers.{layer_is_array}
 use Rattle.jstruct.proofs.joins.layer.Goals as goal
 

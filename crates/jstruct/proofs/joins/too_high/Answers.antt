@@ -1,4 +1,4 @@
-use Rattle.std.proofs.Common.{ap, ◌∙◌}
+use Rattle.std.proofs.Common.{◌∙◌}
 use Rattle.jstruct.proofs.Layers.{laminated_beyond, laminated_of_kinds}
 use Rattle.jstruct.proofs.joins.too_high.Goals as goal
 

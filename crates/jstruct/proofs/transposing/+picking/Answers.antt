@@ -5,7 +5,7 @@ use Rattle.std.proofs.lemmas.List.{append-nil}
 use Rattle.jdata.specs.Limits.{most_atoms}
 use Rattle.jstruct.specs.Weights.{picked}
 use Rattle.jstruct.proofs.Stretches.{rest}
-use Rattle.jstruct.proofs.Weighing.{picked_one, rows_more, all_rows, rows_picked, rest_short, rest_long, step_fits}
+use Rattle.jstruct.proofs.Weighing.{picked_one, picked_run, rows_more, all_rows, rows_picked, rest_short, rest_long, step_fits}
 use Rattle.jstruct.proofs.transposing.+picking.Goals as goal
 
 pub pick-returns-then-is_empty : goal.pick-returns-then-is_empty
@@ -14,6 +14,13 @@ pick-returns-then-is_empty g t c =
     on_ok_weaker c.push_item.result
     (λ e. e ∙ ap (λ l. c.args.into.now.items ++ l) (picked_one g.T.Item.blank c.args.axes.now c.args.weights.now c.args.start c.args.items.now none c.requires.same))
     c.push_item.ensures
+
+pub pick-returns-then-axes-eq1 : goal.pick-returns-then-axes-eq1
+pick-returns-then-axes-eq1 g t c =
+    let one : length c.args.axes.now ≡ 1 = search rules in
+    on_ok_weaker c.pick_run.result
+    (λ e. e ∙ ap (λ l. c.args.into.now.items ++ l) (picked_run g.T.Item.blank c.args.axes.now c.args.weights.now c.args.start c.args.items.now one c.requires.same))
+    c.pick_run.ensures
 
 pub pick_along-overflow_mul-i : goal.pick_along-overflow_mul-i
 pick_along-overflow_mul-i g t c = omega (arith, step_fits c.loop-i.i (get_or c.args.axes.now 0 0) (get_or c.args.weights.now 0 0) c.loop-i-test.true (c.requires.short 0) (c.requires.light 0))
