@@ -8,6 +8,7 @@ pub mod Given
 pub mod Graded
 pub mod KeyLists
 pub mod Looking
+pub mod NubLaws
 pub mod Made
 pub mod OneGrade
 pub mod OrderLaws
