@@ -1,6 +1,6 @@
-use jexplicit::{Definition, Form, Need, definition, need};
 use jcontrol::Act;
 use jdata::Trouble;
+use jexplicit::{Definition, Form, Need, definition, need};
 use jwords::words;
 use std::alloc::Global;
 use std::test::Fail;

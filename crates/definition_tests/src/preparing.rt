@@ -1,5 +1,5 @@
-use jexplicit::{Kind, Looping, prepared};
 use jcontrol::{Act, Prepared};
+use jexplicit::{Kind, Looping, prepared};
 use std::alloc::Global;
 use std::process::Abort;
 use std::test::Fail;

@@ -166,7 +166,6 @@ nth_piece d ns part divides array i below =
     let r : Run = run_of d n i in
     let from : 0 + i ≡ i = omega arith in
     let number : get_or all i 0 ≡ i = get_or-range_with_len 0 (how_many d n) i 0 (omega (arith, divides.as_many, below)) ∙ from in
-    
     let run : get_or some_runs i (run_of d n 0) ≡ r = get_or-map (run_of d n) all i 0 (run_of d n 0) (omega (arith, count, below)) ∙ ap (run_of d n) number in
     let place : get_or places i [] ≡ run_places r = get_or-map run_places some_runs i (run_of d n 0) [] (omega (arith, runs_count, below)) ∙ ap run_places run in
     get_or-map (λ p. items_at p y) places i [] (no_items (within d y)) (omega (arith, places_count, below))
@@ -223,9 +222,11 @@ pieces_apply levels u verb e d ns values part divides array some are l s =
     ∙ other (length p.places * 1 == 0) (Ask (on t q.none.0 q.none.1) (λ answer. Return (alone q.frame answer))) (from_on t q 0 []) (ne_eqb _ _ (λ none. omega (arith, count, some, none)))
     ∙ ap (λ k. each t q (range_with_len 0 k) []) whole in
     let each_is : All (Applies t q (value_at values)) (range_with_len 0 n) =
-    all_from (Applies t q (value_at values)) 0 n (λ i below. (let inside : i < n = omega (arith, below) in (refl,
+    all_from (Applies t q (value_at values)) 0 n (λ i below. (let inside : i < n = omega (arith, below) in (
+      refl,
       ap (λ v. direct (derived t None v)) (nth_piece d ns part divides array i inside)
-      ∙ inserts t verb of (part i) (value_at values i) (nth_value verb part n values are i inside)))) in
+          ∙ inserts t verb of (part i) (value_at values i) (nth_value verb part n values are i inside),
+    ))) in
     let all : length (range_with_len 0 n) ≡ n = length-range_with_len 0 n in
     ap (λ r. ran (applied (suc levels)) r (with_left (n + l) s)) begun
     ∙ ap (λ m. ran (applied (suc levels)) (each t q (range_with_len 0 n) []) (with_left (m + l) s)) (sym all)

@@ -1,7 +1,7 @@
 -- The nub has each item once.
-use Rattle.std.specs.Prelude.{ℕ, ◌+◌, ◌<◌, ◌≤◌, ◌≡◌, ◌==◌, Bool, true, false, List, get_or, length, IsTrue}
-use Rattle.std.specs.List.{position_or_len, range_with_len}
-use Rattle.std.proofs.Common.{arith, sym, ◌∙◌, ap, refl, inl, inr}
+use Rattle.std.specs.Prelude.{ℕ, ◌<◌, ◌≤◌, ◌≡◌, Bool, true, false, List, get_or, length}
+use Rattle.std.specs.List.{position_or_len}
+use Rattle.std.proofs.Common.{arith, sym, ◌∙◌, ap, refl}
 use Rattle.std.proofs.Common.{eq-eqb}
 use Rattle.std.proofs.Math.Dec.{leb}
 use Rattle.std.proofs.lemmas.Bool.{leb-false, leb-true}
@@ -13,7 +13,7 @@ use Rattle.jarray.specs.Matches.{matches}
 use Rattle.jdata.specs.Match.{IsMatch}
 use Rattle.jdata.specs.declared.noun.Noun.{Noun}
 use Rattle.jselect.specs.Items.{item_count}
-use Rattle.jsearch.specs.Finding.{first_place, is_new, item, items}
+use Rattle.jsearch.specs.Finding.{first_place, item, items}
 use Rattle.jsearch.specs.Laws.{EachIsKept, KeptAreDifferent}
 
 -- what one array matches, an array that matches it does
