@@ -1,7 +1,7 @@
 -- Verbs whose values on the same numbers from the last on and from the first on are one.
-use Rattle.std.proofs.Common.{◌≡◌, ℕ, ◌+◌, ◌<◌, ◌≤◌, List, [], ◌∷◌, ◌++◌, map, length, take, reverse, Some, None, Option, Result, Ok, Err, refl, sym, ap, ◌∙◌, arith}
-use Rattle.std.specs.Prelude.{ℤ, pos, ◌+ℤ◌, unsigned_abs}
-use Rattle.std.specs.List.{sum_by, fold, range_with_len}
+use Rattle.std.proofs.Common.{◌≡◌, ℕ, ◌+◌, ◌≤◌, List, [], ◌∷◌, length, take, reverse, Some, None, Result, Ok, refl, sym, ap, ◌∙◌, arith}
+use Rattle.std.specs.Prelude.{ℤ}
+use Rattle.std.specs.List.{sum_by, fold}
 use Rattle.std.proofs.lemmas.List.{reverse-append}
 use Rattle.std.proofs.lemmas.List.Sums.{sum_by-cons, sum_by-take-le}
 use Rattle.jdata.specs.declared.fault.Fault.{Fault}
@@ -58,3 +58,18 @@ pub prefixes_run : (weight : ℤ → ℕ) (limit : ℕ) (meant : ℤ → ℤ →
 prefixes_run weight limit meant f law l h =
     same_map (λ n. of_back meant (reverse (take (n + 1) l))) (λ n. onward meant (take (n + 1) l)) (length l) None
     (λ n below. let part : sum_by weight (take (n + 1) l) ≤ sum_by weight l = sum_by-take-le weight l (n + 1) in both_ways weight limit meant f law (take (n + 1) l) (omega arith))
+
+along : (weight : ℤ → ℕ) (limit : ℕ) (meant : ℤ → ℤ → Result ℤ Fault) (f : ℤ → ℤ → ℤ) (law : Joins weight limit meant f) (x : ℤ) (xs : List ℤ) → sum_by weight (x ∷ xs) ≤ limit → onward meant (x ∷ xs) ≡ Some (fold f x xs)
+along weight limit meant f law x xs h =
+    let cons : sum_by weight (x ∷ xs) ≡ weight x + sum_by weight xs = sum_by-cons weight x xs in
+    ahead weight limit meant f law x xs (omega arith)
+
+alike : (weight : ℤ → ℕ) (limit : ℕ) (meant other : ℤ → ℤ → Result ℤ Fault) (f : ℤ → ℤ → ℤ) (law : Joins weight limit meant f) (same : Joins weight limit other f) (l : List ℤ) → sum_by weight l ≤ limit → onward meant l ≡ onward other l
+alike weight limit meant other f law same [] h = refl
+alike weight limit meant other f law same (x ∷ xs) h = along weight limit meant f law x xs h ∙ sym (along weight limit other f same x xs h)
+
+-- two verbs that are one function on such numbers
+pub runs_alike : (weight : ℤ → ℕ) (limit : ℕ) (meant other : ℤ → ℤ → Result ℤ Fault) (f : ℤ → ℤ → ℤ) (law : Joins weight limit meant f) (same : Joins weight limit other f) (l : List ℤ) → sum_by weight l ≤ limit → running meant l ≡ running other l
+runs_alike weight limit meant other f law same l h =
+    same_map (λ n. onward meant (take (n + 1) l)) (λ n. onward other (take (n + 1) l)) (length l) None
+    (λ n below. let part : sum_by weight (take (n + 1) l) ≤ sum_by weight l = sum_by-take-le weight l (n + 1) in alike weight limit meant other f law same (take (n + 1) l) (omega arith))

@@ -1,22 +1,21 @@
 -- The verbs that may be grouped either way.
-use Rattle.std.proofs.Common.{◌≡◌, ℕ, zero, suc, ◌+◌, ◌-◌, ◌<◌, ◌≤◌, ◌^◌, List, [], ◌∷◌, map, Some, Option, Result, Ok, Err, refl, sym, ap, subst, ◌∙◌, arith}
+use Rattle.std.proofs.Common.{◌≡◌, ◌+◌, ◌-◌, ◌<◌, ◌≤◌, ◌^◌, List, [], ◌∷◌, Some, refl, arith}
 use Rattle.std.specs.Prelude.{ℤ, pos, negsuc, ◌+ℤ◌, unsigned_abs, FitsSigned}
 use Rattle.std.specs.Int.{int_min, int_max}
 use Rattle.std.specs.List.{sum_by}
 use mir.Syntax.{w64}
 use Rattle.std.proofs.lemmas.Int.{ints, clamps, fits_signed_from_abs}
 use Rattle.std.proofs.lemmas.List.Sums.{sum_by-cons}
-use Rattle.jdata.specs.declared.fault.Fault.{Fault}
 use Rattle.jscalar.specs.Dyads.{plus, lesser, larger}
 use Rattle.jscalar.proofs.Bounds.{fitted_within}
 use Rattle.jfold.specs.Folded.{prefixes_by}
 use Rattle.jfold.specs.Running.{running, magnitudes}
 use Rattle.jfold.proofs.Laws.{Joins, prefixes_run}
 
-least_either_way : (x y z : ℤ) → int_min (int_min x y) z ≡ int_min x (int_min y z)
+pub least_either_way : (x y z : ℤ) → int_min (int_min x y) z ≡ int_min x (int_min y z)
 least_either_way x y z = omega (arith, ints, clamps)
 
-greatest_either_way : (x y z : ℤ) → int_max (int_max x y) z ≡ int_max x (int_max y z)
+pub greatest_either_way : (x y z : ℤ) → int_max (int_max x y) z ≡ int_max x (int_max y z)
 greatest_either_way x y z = omega (arith, ints, clamps)
 
 sum_either_way : (x y z : ℤ) → (x +ℤ y) +ℤ z ≡ x +ℤ (y +ℤ z)

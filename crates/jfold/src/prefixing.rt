@@ -1,23 +1,25 @@
 //! A verb between the numbers of each prefix.
 
 ghost use Rattle.std.specs.Prelude.{◌≡◌, ◌<◌, ◌^◌, ◌↔◌, Some, None, true, false, IsTrue, IfOk, length, map, slice_get};
-ghost use Rattle.std.specs.List.{Contains};
+ghost use Rattle.std.specs.List.{Contains, list_all};
 ghost use Rattle.std.specs.Option.{IfSome};
 ghost use Rattle.jscalar.specs.Dyads as dyads;
+ghost use Rattle.jscalar.specs.Truths.{is_truth};
 ghost use Rattle.jfold.specs.Folded as folded;
 ghost use Rattle.jfold.specs.Running.{running, magnitudes};
 
 use jdata::{IntList, NoMemory, Primitive};
 use jscalar::Dyad;
-use jscalar::dyads::{LargerOf, LesserOf, Plus};
+use jscalar::dyads::{LargerOf, LesserOf, NotEqual, Plus};
 use std::alloc::Global;
 
 /// The greatest sum of magnitudes at which no sum of the numbers is beyond 64 bits, in whatever order it is made.
 const LIMIT: u64 = i64::MAX as u64;
 
 /// The values of a verb between the numbers of each prefix of a list, from the shortest on (NuVoc, "\"), in one pass,
-/// for verbs whose value on a prefix follows from that on the one before: `+`, `<.` and `>.`. There are none for other
-/// verbs, without numbers, and for `+` where the magnitudes of the numbers add up to more than 64 bits hold.
+/// for verbs whose value on a prefix follows from that on the one before: `+`, `<.` and `>.`, and `~:`, `+.` and `*.`
+/// of numbers that are all 0 or 1. There are none for other verbs or numbers, without numbers, and for `+` where the
+/// magnitudes of the numbers add up to more than 64 bits hold.
 #[tactic(auto, unfolding(jscalar::specs::Dyads::dyad_on))]
 pub fn prefixes(
     alloc: Global,
@@ -30,6 +32,9 @@ pub fn prefixes(
         Primitive::Plus => sums(alloc, numbers),
         Primitive::LessDot => least(alloc, numbers),
         Primitive::GreaterDot => greatest(alloc, numbers),
+        Primitive::TildeColon => differences(alloc, numbers),
+        Primitive::PlusDot => any_so_far(alloc, numbers),
+        Primitive::TimesDot => all_so_far(alloc, numbers),
         _ => Ok(None),
     }
 }
@@ -54,6 +59,57 @@ fn greatest(alloc: Global, numbers: &[i64]) -> Result<Option<IntList>, NoMemory>
     ensures { IfOk result (λ made. IfSome made (λ values. folded.prefixes_by (Some dyads.larger) numbers.now ≡ map Some values)) }
 {
     with_running::<LargerOf>(alloc, numbers)
+}
+
+fn differences(alloc: Global, numbers: &[i64]) -> Result<Option<IntList>, NoMemory>
+    ensures { IfOk result (λ made. IfSome made (λ values. folded.prefixes_by (Some dyads.not_equal) numbers.now ≡ map Some values)) }
+{
+    if are_truths(numbers) {
+        with_running::<NotEqual>(alloc, numbers)
+    } else {
+        Ok(None)
+    }
+}
+
+/// Of truths the greatest common divisor is the larger.
+fn any_so_far(alloc: Global, numbers: &[i64]) -> Result<Option<IntList>, NoMemory>
+    ensures { IfOk result (λ made. IfSome made (λ values. folded.prefixes_by (Some dyads.common_divisor) numbers.now ≡ map Some values)) }
+{
+    if are_truths(numbers) {
+        with_running::<LargerOf>(alloc, numbers)
+    } else {
+        Ok(None)
+    }
+}
+
+/// Of truths the least common multiple is the lesser.
+fn all_so_far(alloc: Global, numbers: &[i64]) -> Result<Option<IntList>, NoMemory>
+    ensures { IfOk result (λ made. IfSome made (λ values. folded.prefixes_by (Some dyads.common_multiple) numbers.now ≡ map Some values)) }
+{
+    if are_truths(numbers) {
+        with_running::<LesserOf>(alloc, numbers)
+    } else {
+        Ok(None)
+    }
+}
+
+/// Whether each number is 0 or 1.
+fn are_truths(numbers: &[i64]) -> bool
+    ensures { result ≡ list_all is_truth numbers.now }
+{
+    for number in numbers {
+        if !is_truth(*number) {
+            return false;
+        }
+    }
+    true
+}
+
+#[tactic(auto, unfolding(jscalar::specs::Truths::is_truth, jscalar::specs::Truths::is_one))]
+fn is_truth(number: i64) -> bool
+    ensures { result ≡ is_truth number }
+{
+    number == 0 || number == 1
 }
 
 /// Whether the magnitudes of the numbers add up to a number of 64 bits.

@@ -32,11 +32,23 @@ fn each_prefix_has_its_value(rt: HostRuntime) -> Result<(), Fail> {
 }
 
 #[test]
+fn each_prefix_of_truths_has_its_value(rt: HostRuntime) -> Result<(), Fail> {
+    let differ = prefixes(rt.alloc(), Primitive::TildeColon, &[1, 0, 1, 1])?.ok_or("none")?;
+    assert_eq!(rt; differ.items(), [1, 1, 0, 1].as_slice());
+    let any = prefixes(rt.alloc(), Primitive::PlusDot, &[0, 0, 1, 0])?.ok_or("none")?;
+    assert_eq!(rt; any.items(), [0, 0, 1, 1].as_slice());
+    let all = prefixes(rt.alloc(), Primitive::TimesDot, &[1, 1, 0, 1])?.ok_or("none")?;
+    assert_eq!(rt; all.items(), [1, 1, 0, 0].as_slice());
+    Ok(())
+}
+
+#[test]
 fn no_prefix_without_a_value(rt: HostRuntime) -> Result<(), Fail> {
     let alloc = rt.alloc();
     assert!(rt; prefixes(alloc, Primitive::Plus, &[])?.is_none());
     assert!(rt; prefixes(alloc, Primitive::Minus, &[1, 2])?.is_none());
     assert!(rt; prefixes(alloc, Primitive::Plus, &[-1, i64::MAX])?.is_none());
+    assert!(rt; prefixes(alloc, Primitive::PlusDot, &[1, 2])?.is_none());
     assert!(rt; prefixes(alloc, Primitive::Plus, &[0, i64::MAX])?.is_some());
     Ok(())
 }

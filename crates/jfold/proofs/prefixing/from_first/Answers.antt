@@ -1,4 +1,4 @@
-use Rattle.std.proofs.Common.{rules, ◌≡◌, ◌∙◌, ap, pos, get_or, w64}
+use Rattle.std.proofs.Common.{rules, ◌∙◌, ap, pos, get_or, w64}
 use mir.Val.{SFits}
 use Rattle.jscalar.specs.Flagged.{flagged}
 use Rattle.jfold.proofs.Forward.{begins, goes_on, stops, ends}
