@@ -9,16 +9,9 @@ use Rattle.jcontrol.specs.Block.{Block, Cases}
 use Rattle.jcontrol.specs.Block.Block.{Nothing, Sentence, If, While, For, Select, Try, Assert, Break, Continue, Leave}
 use Rattle.jcontrol.specs.Block.Cases.{NoCase, Case, Always}
 use Rattle.jcontrol.specs.Meaning.{Finished, Faulted, Unfinished, Control, Ways, goes_on, by_test, asserted, tested, in_round, while_round, while_loop, round_after, for_loop, meaning, selected, fallen, body}
-use Rattle.jcontrol.specs.Rounds.{Spent, starts_round, rounds}
+use Rattle.jcontrol.specs.Rounds.{Spent, Lasts, starts_round, rounds}
 
--- so many rounds are left at least
-abbrev pub Lasts : ℕ → Control → Type 0
-Lasts k (Return Unfinished) = k ≡ 0
-Lasts k (Return Finished) = Unit {0}
-Lasts k (Return Faulted) = Unit {0}
-Lasts k (Ask q f) = (r : Reply) → Lasts (k - starts_round q r) (f r)
-
-less : (p : Control) (j k : ℕ) → j ≤ k → Lasts k p → Lasts j p
+pub less : (p : Control) (j k : ℕ) → j ≤ k → Lasts k p → Lasts j p
 less (Return Unfinished) j k h l = omega arith
 less (Return Finished) j k h l = tt
 less (Return Faulted) j k h l = tt
@@ -165,7 +158,7 @@ module _ (n : ℕ) where
     fallen_lasts (Case w test block falls more) t = λ k ways h a. leaves falls (meaning n t block) (lasts block t) (fallen n t more ways) ways k h a (fallen_lasts more t k ways h a)
     fallen_lasts (Always block falls more) t = λ k ways h a. leaves falls (meaning n t block) (lasts block t) (fallen n t more ways) ways k h a (fallen_lasts more t k ways h a)
 
-  body_lasts : (b : Block) → Lasts n (body n b)
+  pub body_lasts : (b : Block) → Lasts n (body n b)
   body_lasts b = lasts b None n (record { done = Return Finished; broken = Return Finished; again = Return Finished; caught = Return Faulted }) (omega arith) (record { done = tt; broken = tt; again = tt; caught = tt })
 
 pub enough : (n : ℕ) (b : Block) (es : List (Step × Reply)) → rounds es < n → Spent (body n b) es → ⊥

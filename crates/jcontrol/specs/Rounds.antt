@@ -1,5 +1,5 @@
--- How many rounds a body made, of those that it was given.
-use Rattle.std.specs.Prelude.{ℕ, ◌+◌, true, Some, List, [], ◌∷◌, ◌≡◌}
+-- How many rounds a body made, of those that it was given, and how many are left to it.
+use Rattle.std.specs.Prelude.{ℕ, ◌+◌, ◌-◌, true, Some, List, [], ◌∷◌, ◌≡◌}
 use Rattle.jcontrol.specs.declared.frame.Step.{Step}
 use Rattle.jcontrol.specs.declared.frame.Step.TheVariants as step
 use Rattle.jcontrol.specs.declared.frame.Reply.{Reply}
@@ -24,3 +24,10 @@ starts_round _ _ = 0
 abbrev pub rounds : List (Step × Reply) → ℕ
 rounds [] = 0
 rounds (e ∷ es) = starts_round e.0 e.1 + rounds es
+
+-- so many rounds are left at least, whatever is told
+abbrev pub Lasts : ℕ → Control → Type 0
+Lasts k (Return Unfinished) = k ≡ 0
+Lasts k (Return Finished) = Unit {0}
+Lasts k (Return Faulted) = Unit {0}
+Lasts k (Ask q f) = (r : Reply) → Lasts (k - starts_round q r) (f r)

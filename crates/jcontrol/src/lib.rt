@@ -7,7 +7,7 @@ mod rounds;
 
 pub use frame::{Frame, Reply, Step};
 pub use prepared::{Act, Prepared, after, refuses};
-pub use rounds::enough_rounds;
+pub use rounds::{body_lasts, enough_rounds, lasts_less};
 
 #[cfg(test)]
 mod tests;
