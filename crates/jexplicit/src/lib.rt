@@ -25,7 +25,9 @@ pub use defining::definition;
 pub use kind::{Kind, Looping};
 pub use laws::each_part_stands;
 pub use needs::need;
-pub use reading::{Change, Part, preparing_agrees, reading_is_exact, words_are_counted};
+pub use reading::{
+    Change, Part, each_text_is_had_back, preparing_agrees, reading_is_exact, words_are_counted,
+};
 pub use shared::Body;
 pub use taking::Need;
 pub use valence::Definition;

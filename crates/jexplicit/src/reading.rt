@@ -1,10 +1,11 @@
-ghost use Rattle.std.specs.Prelude.{ℕ, ◌≡◌, ◌↔◌, List, [], length, true, false};
+ghost use Rattle.std.specs.Prelude.{ℕ, ◌≡◌, ◌↔◌, List, [], length, true, false, Some};
 ghost use Rattle.jexplicit.specs.declared.kind.Kind.{Kind};
 ghost use Rattle.jexplicit.specs.Blocks.{count};
 ghost use Rattle.jexplicit.specs.Grammar.{Text, spell, IsPlaced};
 ghost use Rattle.jcontrol.specs.Machine.{IsSound};
 ghost use Rattle.jexplicit.specs.Preparing.{IsPrepared, prepares};
 ghost use Rattle.jexplicit.specs.Reading.{reads};
+ghost use Rattle.jexplicit.specs.Texts.{text_in};
 
 /// The part of an open group in which the next word stands.
 #[derive(Clone, Copy, Debug, PartialEq, Eq)]
@@ -40,6 +41,12 @@ pub fn reading_is_exact()
 #[tactic(auto, using(crate::proofs::Counts::counted))]
 pub fn words_are_counted()
     ensures { (text : Text) → length (spell text []) ≡ count text }
+{}
+
+/// A text is had back of the words that spell it, so they spell no other.
+#[tactic(auto, using(crate::proofs::Texts::had_back))]
+pub fn each_text_is_had_back()
+    ensures { (text : Text) → text_in (spell text []) ≡ Some text }
 {}
 
 /// What is prepared of words that are read is laid as the blocks of a text that they spell, and leads nowhere but to
