@@ -19,3 +19,4 @@ pub mod Crossing
 pub mod Blanks
 pub mod Fillings
 pub mod Layouts
+mod Berths

@@ -8,4 +8,6 @@ pub mod Sole
 pub mod Seats
 pub mod Gathering
 pub mod Reads
+pub mod Keeping
+pub mod KeptReads
 pub mod Grounds

@@ -27,6 +27,15 @@ pub enum NoShare {
     Moved { expected: u64, found: u64 },
 }
 
+/// Why a kept hold has no second one.
+#[derive(Clone, Copy, PartialEq, Eq, Debug, Drop)]
+pub enum NotShared {
+    /// The yard has no room for another owner.
+    NoMemory,
+    /// The block was not shared.
+    Refused(NoShare),
+}
+
 impl<T> Hold<T> {
     /// The block's number, below the number of the yard's blocks.
     pub fn block(&self) -> u32

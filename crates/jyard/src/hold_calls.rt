@@ -1,5 +1,5 @@
 // The calls of a hold. Each takes the yard by reference, with the condition that the hold is of it, and the pass too. None takes memory.
-ghost use Rattle.std.specs.Prelude.{◌≡◌, ℕ, [], ◌++◌, ◌<◌, ◌≤◌, length, true, is_some, Some, None, IfOk, IfErr, IfSome};
+ghost use Rattle.std.specs.Prelude.{◌≡◌, ℕ, [], ◌++◌, ◌+◌, ◌<◌, ◌≤◌, length, true, is_some, Some, None, IfOk, IfErr, IfSome};
 ghost use Rattle.std.specs.Borrow.{LendsIfOk, sem};
 ghost use Rattle.jyard.specs.contracts.hold.Hold.{the_row};
 ghost use Rattle.jyard.specs.Reads.{SharedBy, LeftBy};
@@ -59,6 +59,19 @@ impl<T> Hold<T> {
         let at = self.block as usize;
         let table = yard.table();
         self.sole_at(table, at)
+    }
+
+    /// Puts the value in place of the payload, which comes back, where the word read says that this is the only hold. Otherwise the value comes back, with the count.
+    pub fn replace(&mut self, yard: &Yard<T>, value: T) -> Result<T, (T, Held)>
+        requires { IsHoldOf (blocks_of yard.now) self.old }
+        ensures hold { IsHoldOf (blocks_of yard.now) self.new }
+        ensures replaced { IfOk result (λ old. (Some old ≡ self.old.seat.value) × (self.new ≡ with_payload self.old value)) }
+        ensures held { IfErr result (λ r. (r.0 ≡ value) × (self.new ≡ refused self.old (r.1.count + 1)) × (2 ≤ r.1.count) × (r.1.count < 4294967295)) }
+    {
+        match self.sole(yard) {
+            Ok(place) => Ok(mem::replace(place, value)),
+            Err(held) => Err((value, held)),
+        }
     }
 
     fn sole_at<'a>(&'a mut self, table: &'a Table<Option<T>>, at: usize) -> Result<&'a mut T, Held>

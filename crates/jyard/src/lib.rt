@@ -6,6 +6,8 @@ mod gathered_calls;
 mod ground;
 mod hold;
 mod hold_calls;
+mod kept;
+mod kept_calls;
 mod lends;
 mod rows;
 mod seats;
@@ -19,5 +21,6 @@ mod yard;
 mod yard_calls;
 
 pub use gathered::Gathered;
-pub use hold::{Held, Hold, MOST, NoShare};
+pub use hold::{Held, Hold, MOST, NoShare, NotShared};
+pub use kept::Kept;
 pub use yard::{Yard, YardPass};

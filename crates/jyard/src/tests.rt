@@ -1,7 +1,7 @@
 ghost use Rattle.std.specs.Prelude.{◌≡◌, [], All};
 ghost use Rattle.jyard.specs.Yards.{blocks_of, IsHoldOf, IsPassOf};
 
-use crate::{Gathered, Held, Hold, NoShare, Yard, YardPass};
+use crate::{Gathered, Held, Hold, Kept, NoShare, NotShared, Yard, YardPass};
 use std::alloc::{AllocFailed, Global};
 use std::marker::Model;
 use std::process::Abort;
@@ -54,6 +54,62 @@ fn two_holds_together_are_counted(rt: HostRuntime) {
         (None, Some(5))
     );
     yard.join(pass, mine).end();
+}
+
+#[test]
+fn kept_holds_give_their_units_back(rt: HostRuntime) {
+    let (yard, mut pass) = Yard::new(rt.alloc(), 1).expect(&rt, "memory");
+    let owner = yard.again(rt.alloc()).expect(&rt, "memory");
+    let hold = yard.take(&mut pass, 7u64).expect(&rt, "a free block");
+    let mut one = Kept::of(owner, hold);
+    let mut other = one.share(rt.alloc()).expect(&rt, "a share");
+    assert_eq!(rt; (*one.items(), *other.items()), (7, 7));
+    assert_eq!(rt; other.replace(8), Err((8, Held { count: 2 })));
+    drop(one);
+    assert_eq!(rt; other.replace(8), Ok(7));
+    assert_eq!(rt; *other.items(), 8);
+    assert_eq!(rt; other.leave(&mut pass), Some(8));
+    let hold = yard.take(&mut pass, 9u64).expect(&rt, "a free block");
+    assert_eq!(rt; hold.leave(&yard, &mut pass), Some(9));
+    pass.end();
+}
+
+// Shares a kept hold and lets the second one go, a thousand times: how often the payload wasn't what was put, or there were too many holds.
+fn keeps(alloc: Global, mut kept: Kept<u64>) -> u64 {
+    let mut wrong = 0u64;
+    for _ in 0..1000 {
+        let is_right = match kept.share(alloc) {
+            Ok(again) => *again.items() == 7,
+            Err(NotShared::NoMemory) => false,
+            Err(NotShared::Refused(NoShare::Many { count: _ })) => false,
+            Err(
+                NotShared::Refused(
+                    NoShare::Moved {
+                        expected: _,
+                        found: _,
+                    },
+                ),
+            ) => true,
+        };
+        if !is_right {
+            wrong = wrong.wrapping_add(1);
+        }
+    }
+    wrong
+}
+
+#[test]
+fn two_threads_keep_one_block(rt: HostRuntime) {
+    let (yard, mut pass) = Yard::new(rt.alloc(), 1).expect(&rt, "memory");
+    let owner = yard.again(rt.alloc()).expect(&rt, "memory");
+    let hold = yard.take(&mut pass, 7u64).expect(&rt, "a free block");
+    let mut one = Kept::of(owner, hold);
+    let other = one.share(rt.alloc()).expect(&rt, "a share");
+    let wrong = join(&rt, || keeps(rt.alloc(), one), || keeps(rt.alloc(), other));
+    assert_eq!(rt; wrong, (0, 0));
+    let hold = yard.take(&mut pass, 9u64).expect(&rt, "a free block");
+    assert_eq!(rt; hold.leave(&yard, &mut pass), Some(9));
+    pass.end();
 }
 
 // Takes and leaves, a thousand of each: how many payloads read or given out were not the one that was put.
