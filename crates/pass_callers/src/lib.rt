@@ -3,6 +3,8 @@
 
 mod bindings;
 mod desks;
+#[cfg(test)]
+mod tests;
 mod writing;
 
 pub use bindings::{Binding, write_all};
