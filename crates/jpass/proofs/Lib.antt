@@ -1,3 +1,4 @@
 pub mod Turning
 pub mod Again
 pub mod Passes
+pub mod Crossing
