@@ -14,9 +14,12 @@ use Rattle.jframe.specs.Cells.{cell_at, cell_count}
 abbrev pub has_content : (Noun → Bool) → List Atom → Bool
 has_content test l = list_any (λ a. is_box test (out-Atom a)) l
 
+abbrev pub is_boxed : Noun → Bool
+is_boxed v = same_kind (kind v) sort.Boxed
+
 -- the same of an array, which is boxed first where it isn't of kind boxed
 abbrev pub holds_content : (Noun → Bool) → Noun → Bool
-holds_content test v = if same_kind (kind v) sort.Boxed then has_content test (atoms v) else test v
+holds_content test v = if is_boxed v then has_content test (atoms v) else test v
 
 -- a case is taken where the content of a box of the selected value matches that of a box of the case's value
 unfoldable pub is_taken : Noun → Noun → Bool

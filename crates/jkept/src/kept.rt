@@ -2,7 +2,7 @@
 
 ghost use Rattle.std.specs.Prelude.{◌≡◌, None, IfOk, IsOk, OnOk, OnErr};
 ghost use Rattle.jkept.specs.Keeping.{first, kept_after, started, value_of, empty_list, empty_table};
-ghost use Rattle.jkept.specs.Taken.{item, is_taken};
+ghost use Rattle.jkept.specs.Taken.{item, is_boxed, is_taken};
 ghost use Rattle.jkept.specs.Tested as tested;
 
 use crate::items::item;
@@ -132,7 +132,8 @@ impl Kept {
         item(alloc, room, self.value(word).array(), round)
     }
 
-    /// Whether the case of this word is taken, where this `select.` has selected its value.
+    /// Whether the case of this word is taken, where this `select.` has selected its value. No
+    /// memory where both values are boxed, or neither is.
     pub fn takes(
         &self,
         alloc: Global,
@@ -140,7 +141,8 @@ impl Kept {
         word: u32,
         select: u32,
     ) -> Result<bool, NoMemory>
-        ensures { IfOk result (λ taken. taken ≡ is_taken (value_of select self.now) (value_of word self.now)) }
+        ensures value { IfOk result (λ taken. taken ≡ is_taken (value_of select self.now) (value_of word self.now)) }
+        ensures alike { is_boxed (value_of select self.now) ≡ is_boxed (value_of word self.now) → IsOk result }
     {
         is_taken(
             alloc,
