@@ -1,6 +1,7 @@
 -- Tests of atoms, by what the code keeps of them.
-use Rattle.std.specs.Prelude.{◌≡◌, ℕ, ◌==◌, ◌&&◌, not, ℤ, pos, Bool, true, false, List, [], ◌∷◌, length, map}
-use Rattle.std.proofs.Common.{refl, sym, ap, ◌∙◌}
+use Rattle.std.specs.Prelude.{◌≡◌, ℕ, ◌≤◌, ◌==◌, ◌&&◌, not, ℤ, pos, Bool, true, false, List, [], ◌∷◌, length, map}
+use Rattle.std.proofs.Common.{refl, sym, ap, ◌∙◌, arith, get_or}
+use Rattle.std.proofs.Math.Dec.{eqb-suc-zero}
 use Rattle.std.specs.Cmp.{int_eq_equiv}
 use Rattle.std.specs.List.{list_all}
 use Rattle.std.specs.Ordering.{int_eq}
@@ -43,8 +44,10 @@ cell_is_none m (cell.Pyx p) = ap (is_int m) (pyx_in p)
 
 -- ---- tests
 
-pub number_holds : (n : ℤ) (l : List ℤ) → first_holds (map atom.Int (n ∷ l)) ≡ not (int_eq n (pos 0))
-number_holds n l = ap not (number_is (pos 0) n)
+-- the first of some numbers
+pub number_holds : (l : List ℤ) (n : ℤ) → 1 ≤ length l → n ≡ get_or l 0 (pos 0) → not (int_eq n (pos 0)) ≡ first_holds (map atom.Int l)
+number_holds [] n h e = absurd (omega (arith, h))
+number_holds (m ∷ l) n h e = ap (λ k. not (int_eq k (pos 0))) e ∙ sym (ap not (number_is (pos 0) m))
 
 pub chars_hold : (l : List ℕ) → first_holds (map atom.Char l) ≡ true
 chars_hold [] = refl
@@ -65,8 +68,8 @@ number_ones (n ∷ l) = λ i. number_is (pos 1) n i && number_ones l i
 
 pub char_ones : (l : List ℕ) → ones (map atom.Char l) ≡ (length l == 0)
 char_ones [] = refl
-char_ones (n ∷ l) = ap (λ b. b && ones (map atom.Char l)) (char_is_none (pos 1) n)
+char_ones (n ∷ l) = ap (λ b. b && ones (map atom.Char l)) (char_is_none (pos 1) n) ∙ sym (eqb-suc-zero (length l))
 
 pub cell_ones : (l : List Cell) → ones (map atom_of l) ≡ (length l == 0)
 cell_ones [] = refl
-cell_ones (c ∷ l) = ap (λ b. b && ones (map atom_of l)) (cell_is_none (pos 1) c)
+cell_ones (c ∷ l) = ap (λ b. b && ones (map atom_of l)) (cell_is_none (pos 1) c) ∙ sym (eqb-suc-zero (length l))

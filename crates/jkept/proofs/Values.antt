@@ -8,6 +8,7 @@ use Rattle.std.specs.FinMap.{FinMap, from_entries, find, get-from_entries, get-i
 use Rattle.std.specs.Map.{lookup}
 use Rattle.std.specs.Ordering.{nat_cmp, eq_by_cmp}
 use Rattle.jdata.specs.declared.noun.Noun.{Noun}
+use Rattle.jkept.specs.Keeping.{Keeping, kept_after, started, value_of, empty_list}
 
 abbrev pub Entries : Type 0
 Entries = List (ℕ × Noun)
@@ -36,3 +37,21 @@ inserted es fs k v h = same_map nat_cmp_total nat_cmp-IsAntisymmetric _ _
 pub removed : (es fs : Entries) (k : ℕ) → ((q : ℕ) → looked_up q fs ≡ cond (is_at (nat_cmp k) q) None (looked_up q es)) → as_map fs ≡ map.remove (as_map es) k
 removed es fs k h = same_map nat_cmp_total nat_cmp-IsAntisymmetric _ _
     (λ q. got q fs ∙ h q ∙ sym (get-remove nat_cmp_total (as_map es) k q ∙ (λ i. cond (turned k q i) None (got q es i))))
+
+-- ---- what is kept
+
+abbrev pub with_values : Noun → FinMap nat_cmp Noun → Keeping
+with_values r m = record { result = r; values = m }
+
+abbrev pub seen : Noun → Entries → Keeping
+seen r es = with_values r (as_map es)
+
+module _ (r : Noun) (es : Entries) (now : Keeping) (is : seen r es ≡ now) (k : ℕ) where
+  pub keeps : (fs : Entries) (v : Noun) → ((q : ℕ) → looked_up q fs ≡ cond (is_at (nat_cmp k) q) (Some v) (looked_up q es)) → seen r fs ≡ kept_after (Some k) v now
+  keeps fs v h = ap (with_values r) (inserted es fs k v h) ∙ ap (kept_after (Some k) v) is
+
+  pub starts : (fs : Entries) → ((q : ℕ) → looked_up q fs ≡ cond (is_at (nat_cmp k) q) None (looked_up q es)) → seen r fs ≡ started k now
+  starts fs h = ap (with_values r) (removed es fs k h) ∙ ap (started k) is
+
+  pub reads : (o : Option Noun) → o ≡ looked_up k es → unwrap_or o empty_list ≡ value_of k now
+  reads o h = ap (λ p. unwrap_or p empty_list) (h ∙ sym (got k es)) ∙ ap (value_of k) is
