@@ -5,10 +5,10 @@ use Rattle.std.proofs.Math.Dec.{eqb-suc-zero}
 use Rattle.std.specs.Cmp.{int_eq_equiv}
 use Rattle.std.specs.List.{list_all}
 use Rattle.std.specs.Ordering.{int_eq}
-use Rattle.jarray.specs.Matches.{is_int, is_box}
+use Rattle.jarray.specs.Matches.{is_int}
 use Rattle.jdata.specs.Trees.{atom_of}
 use Rattle.jdata.specs.declared.noun.Noun.{Noun}
-use Rattle.jdata.specs.declared.noun.Atom.{Atom, Atom-F, out-Atom, out-roll-Atom}
+use Rattle.jdata.specs.declared.noun.Atom.{Atom, out-Atom, out-roll-Atom}
 use Rattle.jdata.specs.declared.noun.Atom.TheOpen as one
 use Rattle.jdata.specs.declared.noun.Atom.TheVariants as atom
 use Rattle.jdata.specs.declared.path.PyxId.{PyxId}

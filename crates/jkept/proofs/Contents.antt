@@ -9,7 +9,7 @@ use Rattle.jdata.specs.Match.{IsMatch}
 use Rattle.jdata.specs.Noun.{atoms}
 use Rattle.jdata.specs.Trees.{atom_of}
 use Rattle.jdata.specs.declared.noun.Noun.{Noun}
-use Rattle.jdata.specs.declared.noun.Atom.{Atom, out-Atom}
+use Rattle.jdata.specs.declared.noun.Atom.{out-Atom}
 use Rattle.jdata.specs.declared.noun.Atom.TheVariants as atom
 use Rattle.jdata.specs.declared.path.PyxId.{PyxId}
 use Rattle.jdata.specs.declared.tree.Cell.{Cell}

@@ -7,6 +7,17 @@ use jterm::Datum;
 use std::alloc::Global;
 use std::test::Fail;
 
+/// A value as it is written in a table.
+#[derive(Clone, Copy, Debug)]
+enum Value {
+    Atom(i64),
+    List(&'static [i64]),
+    Table(u64, u64, &'static [i64]),
+    Text(&'static [u8]),
+    /// Boxes with these numbers, each alone.
+    Boxes(&'static [i64]),
+}
+
 fn array(alloc: Global, axes: &[u64], leaves: Leaves) -> Result<Array, Fail> {
     let tree = Tree::new(Vec::from_slice(alloc, axes)?, leaves)?;
     Ok(Array::of(tree))
@@ -17,27 +28,33 @@ fn integers(alloc: Global, axes: &[u64], numbers: &[i64]) -> Result<Array, Fail>
     array(alloc, axes, Leaves::Int(numbers))
 }
 
-fn text(alloc: Global, bytes: &[u8]) -> Result<Array, Fail> {
-    let letters = Bytes::of(Vec::from_slice(alloc, bytes)?);
-    array(alloc, &[bytes.len() as u64], Leaves::Char(letters))
-}
-
-// Boxes with these numbers, each alone.
 fn boxes(alloc: Global, numbers: &[i64]) -> Result<Array, Fail> {
     let mut cells = Vec::new(alloc);
     for &number in numbers {
         cells.push(Cell::Boxed(Tree::atom(alloc, number)?))?;
     }
-    array(
-        alloc,
-        &[numbers.len() as u64],
-        Leaves::Cell(CellList::of(cells)),
-    )
+    let cells = Leaves::Cell(CellList::of(cells));
+    array(alloc, &[numbers.len() as u64], cells)
 }
 
-fn kept_in(alloc: Global, word: u32, value: Array) -> Result<Kept, Fail> {
+fn made(alloc: Global, value: Value) -> Result<Array, Fail> {
+    match value {
+        Value::Atom(number) => Ok(Array::atom(number)),
+        Value::List(numbers) => integers(alloc, &[numbers.len() as u64], numbers),
+        Value::Table(rows, columns, numbers) => integers(alloc, &[rows, columns], numbers),
+        Value::Text(bytes) => {
+            let letters = Bytes::of(Vec::from_slice(alloc, bytes)?);
+            array(alloc, &[bytes.len() as u64], Leaves::Char(letters))
+        }
+        Value::Boxes(numbers) => boxes(alloc, numbers),
+    }
+}
+
+/// What is kept where the test 1 has this value.
+fn kept_with(alloc: Global, value: Value) -> Result<Kept, Fail> {
+    let value = made(alloc, value)?;
     let mut kept = Kept::new(alloc)?;
-    kept.keep(Some(word), Datum::of(value))?;
+    kept.keep(Some(1), Datum::of(value))?;
     Ok(kept)
 }
 
@@ -49,14 +66,14 @@ fn is(room: &Room, value: &Datum, wanted: &Array) -> bool {
 fn the_result_is_the_last_value_outside_of_tests(rt: HostRuntime) -> Result<(), Fail> {
     let alloc = rt.alloc();
     let room = Room::none();
-    let table = integers(alloc, &[0, 0], &[])?;
+    let table = made(alloc, Value::Table(0, 0, &[]))?;
     assert!(rt; is(&room, &Kept::new(alloc)?.into_result(), &table));
 
-    let mut kept = kept_in(alloc, 3, Array::atom(5))?;
-    assert!(rt; is(&room, kept.value(3), &Array::atom(5)));
+    let mut kept = kept_with(alloc, Value::Atom(5))?;
     kept.keep(None, Datum::of(Array::atom(6)))?;
     kept.keep(None, Datum::of(Array::atom(7)))?;
-    kept.keep(Some(4), Datum::of(Array::atom(8)))?;
+    kept.keep(Some(2), Datum::of(Array::atom(8)))?;
+    assert!(rt; is(&room, kept.value(1), &Array::atom(5)));
     assert!(rt; is(&room, &kept.into_result(), &Array::atom(7)));
     Ok(())
 }
@@ -65,118 +82,100 @@ fn the_result_is_the_last_value_outside_of_tests(rt: HostRuntime) -> Result<(), 
 fn a_test_starts_with_an_empty_value(rt: HostRuntime) -> Result<(), Fail> {
     let alloc = rt.alloc();
     let room = Room::none();
-    let list = integers(alloc, &[0], &[])?;
-    let mut kept = kept_in(alloc, 3, Array::atom(0))?;
-    kept.keep(Some(4), Datum::of(Array::atom(0)))?;
-    assert!(rt; !kept.holds(&room, 3));
-    kept.start_test(3);
-    assert!(rt; is(&room, kept.value(3), &list));
-    assert!(rt; kept.holds(&room, 3));
-    assert!(rt; !kept.holds(&room, 4));
-    kept.keep(Some(3), Datum::of(Array::atom(0)))?;
-    assert!(rt; !kept.holds(&room, 3));
+    let list = made(alloc, Value::List(&[]))?;
+    let mut kept = kept_with(alloc, Value::Atom(0))?;
+    kept.keep(Some(2), Datum::of(Array::atom(0)))?;
+    assert!(rt; !kept.holds(&room, 1));
+    kept.start_test(1);
+    assert!(rt; is(&room, kept.value(1), &list));
+    assert!(rt; kept.holds(&room, 1));
+    assert!(rt; !kept.holds(&room, 2));
     Ok(())
 }
+
+// A value, whether a test with it holds, and whether it is all ones.
+const TESTS: [(Value, bool, bool); 10] = [
+    (Value::List(&[]), true, true),
+    (Value::Atom(0), false, false),
+    (Value::Atom(1), true, true),
+    (Value::Atom(-1), true, false),
+    (Value::List(&[0, 1]), false, false),
+    (Value::List(&[1, 0]), true, false),
+    (Value::Table(1, 2, &[1, 1]), true, true),
+    (Value::Text(b"0"), true, false),
+    (Value::Boxes(&[0]), true, false),
+    (Value::Boxes(&[]), true, true),
+];
 
 #[test]
 fn the_first_atom_decides_a_test(rt: HostRuntime) -> Result<(), Fail> {
-    let alloc = rt.alloc();
     let room = Room::none();
-    let table: [(&[i64], bool, bool); 7] = [
-        (&[], true, true),
-        (&[0], false, false),
-        (&[1], true, true),
-        (&[-1], true, false),
-        (&[0, 1], false, false),
-        (&[1, 0], true, false),
-        (&[1, 1], true, true),
-    ];
-    for (numbers, holds, ones) in table.iter() {
-        let value = integers(alloc, &[numbers.len() as u64], numbers)?;
-        let kept = kept_in(alloc, 1, value)?;
-        assert_eq!(rt; kept.holds(&room, 1), *holds);
-        assert_eq!(rt; kept.are_ones(&room, 1), *ones);
-    }
-    for value in [text(alloc, b"0")?, boxes(alloc, &[0])?, boxes(alloc, &[1])?] {
-        let kept = kept_in(alloc, 1, value)?;
-        assert!(rt; kept.holds(&room, 1));
-        assert!(rt; !kept.are_ones(&room, 1));
-    }
-    for value in [text(alloc, b"")?, boxes(alloc, &[])?] {
-        let kept = kept_in(alloc, 1, value)?;
-        assert!(rt; kept.holds(&room, 1));
-        assert!(rt; kept.are_ones(&room, 1));
+    for (value, holds, ones) in TESTS {
+        let kept = kept_with(rt.alloc(), value)?;
+        assert_eq!(rt; kept.holds(&room, 1), holds, "{value:?}");
+        assert_eq!(rt; kept.are_ones(&room, 1), ones, "{value:?}");
     }
     Ok(())
 }
 
-// The items of a value from the first round on.
-fn items(alloc: Global, room: &Room, value: Array) -> Result<Vec<Datum>, Fail> {
-    let kept = kept_in(alloc, 2, value)?;
-    let mut found = Vec::new(alloc);
-    for round in 0..9 {
-        if let Some(item) = kept.item(alloc, room, 2, round)? {
-            found.push(item)?;
-        }
-    }
-    Ok(found)
-}
+// A value, a round, and the item of it.
+const ITEMS: [(Value, u64, Option<Value>); 9] = [
+    (Value::Atom(7), 0, Some(Value::Atom(7))),
+    (Value::Atom(7), 1, None),
+    (Value::List(&[4, 5]), 0, Some(Value::Atom(4))),
+    (Value::List(&[4, 5]), 1, Some(Value::Atom(5))),
+    (Value::List(&[4, 5]), 2, None),
+    (
+        Value::Table(2, 3, &[1, 2, 3, 4, 5, 6]),
+        1,
+        Some(Value::List(&[4, 5, 6])),
+    ),
+    (Value::Table(2, 0, &[]), 1, Some(Value::List(&[]))),
+    (Value::Table(0, 2, &[]), 0, None),
+    (Value::Text(b""), 0, None),
+];
 
 #[test]
 fn items_are_counted_from_0(rt: HostRuntime) -> Result<(), Fail> {
     let alloc = rt.alloc();
     let room = Room::none();
-    let found = items(alloc, &room, Array::atom(7))?;
-    assert_eq!(rt; found.len(), 1);
-    assert!(rt; is(&room, &found[0], &Array::atom(7)));
-
-    let found = items(alloc, &room, text(alloc, b"ab")?)?;
-    assert_eq!(rt; found.len(), 2);
-    let letter = array(
-        alloc,
-        &[],
-        Leaves::Char(Bytes::of(Vec::from_slice(alloc, b"b")?)),
-    )?;
-    assert!(rt; is(&room, &found[1], &letter));
-
-    let found = items(alloc, &room, integers(alloc, &[2, 3], &[1, 2, 3, 4, 5, 6])?)?;
-    assert_eq!(rt; found.len(), 2);
-    assert!(rt; is(&room, &found[0], &integers(alloc, &[3], &[1, 2, 3])?));
-    assert!(rt; is(&room, &found[1], &integers(alloc, &[3], &[4, 5, 6])?));
-
-    let found = items(alloc, &room, integers(alloc, &[2, 0], &[])?)?;
-    assert_eq!(rt; found.len(), 2);
-    assert!(rt; is(&room, &found[0], &integers(alloc, &[0], &[])?));
-
-    assert_eq!(rt;
-        items(alloc, &room, integers(alloc, &[0, 2], &[])?)?.len(),
-        0
-    );
+    for (value, round, wanted) in ITEMS {
+        let kept = kept_with(alloc, value)?;
+        let found = kept.item(alloc, &room, 1, round)?;
+        assert_eq!(rt; found.is_some(), wanted.is_some(), "{value:?}");
+        if let (Some(found), Some(wanted)) = (found, wanted) {
+            assert!(rt; is(&room, &found, &made(alloc, wanted)?), "{value:?}");
+        }
+    }
     Ok(())
 }
+
+// A selected value, the value of a case, and whether the case is taken.
+const CASES: [(Value, Value, bool); 12] = [
+    (Value::Atom(1), Value::Atom(1), true),
+    (Value::Atom(1), Value::Atom(2), false),
+    (Value::Atom(1), Value::List(&[1]), false),
+    (Value::Atom(2), Value::Boxes(&[1, 2]), true),
+    (Value::Boxes(&[1, 2]), Value::Atom(2), true),
+    (Value::Boxes(&[1, 2]), Value::Atom(3), false),
+    (Value::Boxes(&[1, 2]), Value::Boxes(&[3, 2]), true),
+    (Value::Boxes(&[1, 2]), Value::Boxes(&[3, 4]), false),
+    (Value::Boxes(&[]), Value::Boxes(&[]), false),
+    (Value::Boxes(&[]), Value::Text(b""), false),
+    (Value::Text(b"ab"), Value::Text(b"ab"), true),
+    (Value::Text(b""), Value::List(&[]), true),
+];
 
 #[test]
 fn cases_are_taken_by_contents(rt: HostRuntime) -> Result<(), Fail> {
     let alloc = rt.alloc();
     let room = Room::none();
-    let table = [
-        (Array::atom(1), Array::atom(1), true),
-        (Array::atom(1), Array::atom(2), false),
-        (Array::atom(1), integers(alloc, &[1], &[1])?, false),
-        (Array::atom(2), boxes(alloc, &[1, 2])?, true),
-        (boxes(alloc, &[1, 2])?, Array::atom(2), true),
-        (boxes(alloc, &[1, 2])?, Array::atom(3), false),
-        (boxes(alloc, &[1, 2])?, boxes(alloc, &[3, 2])?, true),
-        (boxes(alloc, &[1, 2])?, boxes(alloc, &[3, 4])?, false),
-        (boxes(alloc, &[])?, boxes(alloc, &[])?, false),
-        (boxes(alloc, &[])?, text(alloc, b"")?, false),
-        (text(alloc, b"ab")?, text(alloc, b"ab")?, true),
-        (text(alloc, b"")?, integers(alloc, &[0], &[])?, true),
-    ];
-    for (selected, value, wanted) in table {
-        let mut kept = kept_in(alloc, 1, selected)?;
-        kept.keep(Some(5), Datum::of(value))?;
-        assert_eq!(rt; kept.takes(alloc, &room, 5, 1)?, wanted);
+    for (selected, value, wanted) in CASES {
+        let mut kept = kept_with(alloc, selected)?;
+        let case = made(alloc, value)?;
+        kept.keep(Some(2), Datum::of(case))?;
+        let taken = kept.takes(alloc, &room, 2, 1)?;
+        assert_eq!(rt; taken, wanted, "{selected:?} {value:?}");
     }
     Ok(())
 }
